@@ -1,0 +1,11 @@
+pub mod Outside
+pub mod Reading
+pub mod Shelf
+pub mod ShelfView
+pub mod Mem
+pub mod MemCalls
+pub mod MemSource
+pub mod MemSink
+pub mod MemFiles
+pub mod MemParts
+pub mod MemShelf

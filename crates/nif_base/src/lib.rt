@@ -1,0 +1,27 @@
+//! The base of all other crates: lists and words, and the outside as traits: what gives bytes, what takes
+//! them and what keeps files, each with a form in memory. It stands on no crate of the project. It promises
+//! that each failure comes only where a count of failures rose, and that reading or writing all is exact.
+#![tactic(auto)]
+
+pub mod faults;
+pub mod lists;
+pub mod mem_calls;
+pub mod mem_files;
+pub mod mem_parts;
+pub mod mem_shelf;
+pub mod mem_sink;
+pub mod mem_source;
+pub mod outside;
+pub mod shelves;
+pub mod transfer;
+pub mod words;
+
+pub use faults::{Failed, NoMemory, WriteFault};
+pub use lists::Numbers;
+pub use mem_shelf::MemShelf;
+pub use mem_sink::MemSink;
+pub use mem_source::MemSource;
+pub use outside::{Sink, Source};
+pub use shelves::{Kind, Shelf};
+pub use transfer::{AllFault, read_all, write_all};
+pub use words::Word;
