@@ -23,5 +23,5 @@ pub use mem_sink::MemSink;
 pub use mem_source::MemSource;
 pub use outside::{Sink, Source};
 pub use shelves::{Kind, Shelf};
-pub use transfer::{AllFault, read_all, write_all};
+pub use transfer::{AllFault, read_all, read_at_most, write_all};
 pub use words::Word;

@@ -1,6 +1,6 @@
 //! Reading all of a source, and writing all of a text.
-ghost use Rattle.std.specs.Prelude.{◌≡◌, ℕ, ◌+◌, ◌<◌, ◌≤◌, List, [], ◌++◌, length, IfOk, OnOk, OnErr, Option, take};
-ghost use Rattle.nif_base.specs.Outside.{HasCause, IsAtEnd};
+ghost use Rattle.std.specs.Prelude.{◌≡◌, ◌≢◌, ℕ, ◌+◌, ◌<◌, ◌≤◌, List, [], ◌++◌, length, IfOk, OnOk, OnErr, Option, take, vec_len};
+ghost use Rattle.nif_base.specs.Outside.{HasCause, IsAtEnd, prepended};
 ghost use Rattle.nif_base.specs.Reading.{AnswersAll, ReadCause, TakesAtMost};
 
 use crate::faults::{Failed, WriteFault};
@@ -36,19 +36,24 @@ pub enum AllFault {
     NoMemory,
 }
 
-/// Reads to the end. It takes at most one byte more than `most`, which decides every answer.
-pub fn read_all<S: Source>(alloc: Global, source: &mut S, most: u32) -> Result<Vec<u8>, AllFault>
-    ensures bytes { AnswersAll (S.left source.old) most result }
-    ensures end { OnOk result (IsAtEnd (S.left source.new)) }
-    ensures taken { TakesAtMost (most + 1) (S.left source.old) (S.left source.new) }
+/// Reads to the end, but at most the first `most` bytes; it takes no byte more. It does not answer `TooLong`.
+pub fn read_at_most<S: Source>(
+    alloc: Global,
+    source: &mut S,
+    most: usize,
+) -> Result<Vec<u8>, AllFault>
+    ensures bytes { IfOk result (λ v. S.left source.old ≡ prepended v.items (S.left source.new)) }
+    ensures bound { IfOk result (λ v. vec_len v ≤ most) }
+    ensures end { IfOk result (λ v. vec_len v < most → IsAtEnd (S.left source.new)) }
+    ensures never_too_long { result ≢ Err AllFault.TooLong }
+    ensures taken { TakesAtMost most (S.left source.old) (S.left source.new) }
     ensures cause { ReadCause (S.read_faults source.old) (S.read_faults source.new) result }
     ensures still { S.still source.old source.new }
 {
-    let most = most as usize;
     let mut bytes = Vec::new(alloc);
     let mut buf = [0u8; 4096];
-    'reads: while bytes.len() <= most {
-        let room = (most - bytes.len()).min(4095) + 1;
+    'reads: while bytes.len() < most {
+        let room = (most - bytes.len()).min(4096);
         match source.read(&mut buf[..room]) {
             Ok(0) => return Ok(bytes),
             Ok(count) => match bytes.extend_from_slice(&buf[..count]) {
@@ -58,5 +63,21 @@ pub fn read_all<S: Source>(alloc: Global, source: &mut S, most: u32) -> Result<V
             Err(Failed) => return Err(AllFault::ReadFault),
         }
     }
-    Err(AllFault::TooLong)
+    Ok(bytes)
+}
+
+/// Reads to the end. It takes at most one byte more than `most`, which decides every answer.
+pub fn read_all<S: Source>(alloc: Global, source: &mut S, most: u32) -> Result<Vec<u8>, AllFault>
+    ensures bytes { AnswersAll (S.left source.old) most result }
+    ensures end { OnOk result (IsAtEnd (S.left source.new)) }
+    ensures taken { TakesAtMost (most + 1) (S.left source.old) (S.left source.new) }
+    ensures cause { ReadCause (S.read_faults source.old) (S.read_faults source.new) result }
+    ensures still { S.still source.old source.new }
+{
+    let most = most as usize;
+    match read_at_most(alloc, source, most + 1) {
+        Ok(bytes) if bytes.len() <= most => Ok(bytes),
+        Ok(_) => Err(AllFault::TooLong),
+        Err(fault) => Err(fault),
+    }
 }
