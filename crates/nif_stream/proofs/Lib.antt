@@ -1,0 +1,2 @@
+pub mod PutterLaws
+mod Writes

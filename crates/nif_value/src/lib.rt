@@ -1,0 +1,7 @@
+//! Values: what is read from a file and written to one. It stands on `nif_base`. So far it holds the value of a
+//! plain file alone.
+#![tactic(auto)]
+
+pub mod first;
+
+pub use first::{FirstFault, FirstFile};
