@@ -1,0 +1,4 @@
+pub mod Report
+pub mod Command
+pub mod Meaning
+pub mod Steps

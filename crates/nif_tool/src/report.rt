@@ -1,0 +1,65 @@
+//! What a command answers.
+ghost use Rattle.std.specs.Prelude.{◌≡◌};
+ghost use Rattle.nif_tool.specs.Report.{status_of};
+
+use nif_value::FirstFault;
+use thiserror::Error;
+
+/// How a command ended; its number, from 0, is the exit status of the program.
+#[derive(Debug, Drop, Clone, Copy, PartialEq, Eq)]
+pub enum Status {
+    Done,
+    FileRefused,
+    Usage,
+    SchemaRefused,
+    EditRefused,
+    OutsideFault,
+    NoMemory,
+}
+
+/// Why a command was not done.
+#[derive(Debug, Drop, Clone, Copy, PartialEq, Eq, Error)]
+pub enum Fault {
+    /// The words are no command.
+    #[error("the words are no command")]
+    Usage,
+    /// The file has not the form of a plain file. The fault is none of the outside or of memory.
+    #[error("the file is refused")]
+    First { fault: FirstFault },
+    /// A file could not be opened or created.
+    #[error("a file could not be opened or created")]
+    OpenFault,
+    /// A file could not be read.
+    #[error("a file could not be read")]
+    ReadFault,
+    /// A file could not be written; it has the first of its bytes.
+    #[error("a file could not be written")]
+    WriteFault,
+    /// Memory ran out.
+    #[error("memory ran out")]
+    NoMemory,
+}
+
+/// How a command ended, and why, if it was not done.
+#[derive(Debug, Drop, Clone, Copy, PartialEq, Eq)]
+pub struct Report {
+    pub status: Status,
+    pub fault: Option<Fault>,
+}
+
+impl Report {
+    /// The report of a fault, or of none.
+    pub fn of(fault: Option<Fault>) -> Report
+        ensures fault { result.fault ≡ fault }
+        ensures status { result.status ≡ status_of fault }
+    {
+        let status = match &fault {
+            None => Status::Done,
+            Some(Fault::Usage) => Status::Usage,
+            Some(Fault::First { fault: _ }) => Status::FileRefused,
+            Some(Fault::OpenFault | Fault::ReadFault | Fault::WriteFault) => Status::OutsideFault,
+            Some(Fault::NoMemory) => Status::NoMemory,
+        };
+        Report { status, fault }
+    }
+}
