@@ -9,3 +9,4 @@ pub mod MemSink
 pub mod MemFiles
 pub mod MemParts
 pub mod MemShelf
+pub mod Version

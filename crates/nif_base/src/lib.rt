@@ -14,6 +14,7 @@ pub mod mem_source;
 pub mod outside;
 pub mod shelves;
 pub mod transfer;
+pub mod versions;
 pub mod words;
 
 pub use faults::{Failed, NoMemory, WriteFault};
@@ -24,4 +25,5 @@ pub use mem_source::MemSource;
 pub use outside::{Sink, Source};
 pub use shelves::{Kind, Shelf};
 pub use transfer::{AllFault, read_all, read_at_most, write_all};
+pub use versions::Version;
 pub use words::Word;

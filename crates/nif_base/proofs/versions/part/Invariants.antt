@@ -1,0 +1,15 @@
+use Rattle.std.proofs.Common.{◌≡◌, ◌≤◌, take, true}
+use Rattle.std.specs.Char.{is_ascii_digit}
+use Rattle.std.specs.List.{list_all}
+use Rattle.std.specs.Str.Parse.{digits_value}
+use Rattle.nif_base.proofs.versions.part.Given as goal
+
+abbrev pub invariant-loop-digit : goal.invariant-loop-digit
+invariant-loop-digit l = record {
+  digits : list_all is_ascii_digit (take l.digit-index l.digits) ≡ true;
+  value : l.value ≡ digits_value 10 (take l.digit-index l.digits);
+  none : l.digit-index ≤ 0 → l.value ≤ 0;
+  one : l.digit-index ≤ 1 → l.value ≤ 9;
+  two : l.digit-index ≤ 2 → l.value ≤ 99;
+  three : l.value ≤ 999;
+}
