@@ -23,7 +23,11 @@ pub struct RealShelf<'a, R: Files> {
 
 impl<'a, R: Files> RealShelf<'a, R> {
     /// No file is opened yet, and no count has risen.
-    pub fn new(rt: &'a R) -> RealShelf<'a, R> {
+    pub fn new(rt: &'a R) -> RealShelf<'a, R>
+        ensures reads { ⟦<RealShelf<'a, R> as Source>⟧.read_faults result ≡ 0 }
+        ensures writes { ⟦<RealShelf<'a, R> as Sink>⟧.write_faults result ≡ 0 }
+        ensures opens { ⟦<RealShelf<'a, R> as Shelf>⟧.open_faults result ≡ 0 }
+    {
         RealShelf {
             rt,
             input: None,
@@ -156,9 +160,11 @@ pub struct WriterSink<W> {
     faults: u64,
 }
 
-impl<W> WriterSink<W> {
+impl<W: Write> WriterSink<W> {
     /// A sink over this writer; no count has risen.
-    pub fn new(inner: W) -> WriterSink<W> {
+    pub fn new(inner: W) -> WriterSink<W>
+        ensures { ⟦<WriterSink<W> as Sink>⟧.write_faults result ≡ 0 }
+    {
         WriterSink { inner, faults: 0 }
     }
 }
