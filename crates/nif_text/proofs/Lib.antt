@@ -1,0 +1,11 @@
+pub mod Runs
+pub mod Fronts
+pub mod SingleParts
+pub mod Numbers
+pub mod References
+pub mod Values
+pub mod Attributes
+pub mod Differing
+pub mod Starts
+pub mod Comments
+pub mod Elements

@@ -1,0 +1,12 @@
+pub mod Tree
+pub mod Coding
+pub mod Parts
+pub mod Bytes
+pub mod References
+pub mod Attributes
+pub mod Comments
+pub mod Elements
+pub mod Documents
+pub mod Reading
+pub mod Kinds
+pub mod Bases
