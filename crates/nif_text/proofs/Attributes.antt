@@ -1,15 +1,14 @@
 -- Attributes are read in one way only.
-use Rattle.std.proofs.Common.{ℕ, ◌+◌, ◌≡◌, ◌≤◌, Bool, true, false, IsTrue, ◌⊎◌, inl, inr, Result, Ok, Err, Option, Some, None, List, [], ◌∷◌, ◌++◌, length, refl, sym, ◌∙◌, ap, subst, arith, length-append}
+use Rattle.std.proofs.Common.{ℕ, ◌+◌, ◌≡◌, ◌≤◌, true, false, Err, List, [], ◌∷◌, length, refl, sym, ◌∙◌, ap, subst, arith, length-append}
 use Rattle.std.proofs.lemmas.Bool.Decides.{nat_tests}
-use Rattle.nif_text.specs.Parts.{Many, Byte, Literal, After}
-use Rattle.nif_text.specs.Bytes.{is_blank, is_name_start, is_name_byte, Name, Blanks, SomeBlanks, Spaced}
-use Rattle.nif_text.specs.Attributes.{Value, Assigned, Attribute}
-use Rattle.nif_text.specs.Elements.{bracket}
-use Rattle.nif_text.specs.Reading.{Never, NoLiteral, NoBracket, Longest, Read, AttributeRead}
+use Rattle.nif_text.specs.Parts.{Many, Byte}
+use Rattle.nif_text.specs.Bytes.{is_blank, is_name_start, is_name_byte, Name, SomeBlanks}
+use Rattle.nif_text.specs.Attributes.{Assigned, Attribute}
+use Rattle.nif_text.specs.Reading.{Never, NoBracket, Longest, Read, AttributeRead}
 use Rattle.nif_text.specs.declared.stop.Stop.{Stop}
 use Rattle.nif_text.specs.declared.stop.Stop.TheVariants as stops
 use Rattle.nif_text.proofs.Runs.{Single, longest_same}
-use Rattle.nif_text.proofs.Fronts.{run_is, heads_differ}
+use Rattle.nif_text.proofs.Fronts.{run_is}
 use Rattle.nif_text.proofs.SingleParts.{byte_single, byte_never, name_same}
 use Rattle.nif_text.proofs.Values.{assigned_single}
 
@@ -45,7 +44,7 @@ blanks_of pair text rest a = (a.blanks.1, a.blanks.2, a.blanks.3.1)
 pub attribute_at : (blanks text m : List ℕ) → Longest (Byte is_blank) blanks text m → (pair : List ℕ × List ℕ) (rest : List ℕ) → (a : Attribute pair text rest) → a.name_at ≡ m
 attribute_at blanks text m l pair rest a =
     (longest_same (Byte is_blank) (byte_single is_blank) (a.blanks.0 ∷ a.blanks.3.0) blanks text a.name_at m
-      (blanks_of pair text rest a) (name_no_blank pair.0 a.name_at a.value_at a.name) l.many l.ends).1
+    (blanks_of pair text rest a) (name_no_blank pair.0 a.name_at a.value_at a.name) l.many l.ends).1
 
 pub attribute_behind : (blanks text m : List ℕ) → Longest (Byte is_blank) blanks text m → (pair : List ℕ × List ℕ) (rest : List ℕ) → Attribute pair text rest → NameAndValue pair m rest
 unfolding NameAndValue
@@ -64,17 +63,23 @@ value_behind n m at name ends pair rest p =
 pub attribute_single : Single Attribute
 attribute_single x y text m n p q =
     let blanks : Longest (Byte is_blank) (p.blanks.0 ∷ p.blanks.3.0) text p.name_at = record {
-      many = blanks_of x text m p; ends = name_no_blank x.0 p.name_at p.value_at p.name } in
+      many = blanks_of x text m p;
+      ends = name_no_blank x.0 p.name_at p.value_at p.name;
+    } in
     let behind : (x.0 ≡ y.0) × Assigned y.1 p.value_at n = value_behind x.0 p.name_at p.value_at p.name (assigned_ends_name x.1 p.value_at m p.value) y n
-      (attribute_behind (p.blanks.0 ∷ p.blanks.3.0) text p.name_at blanks y n q) in
+    (attribute_behind (p.blanks.0 ∷ p.blanks.3.0) text p.name_at blanks y n q) in
     let values : (x.1 ≡ y.1) × (m ≡ n) = assigned_single x.1 y.1 p.value_at m n p.value behind.1 in
     ((λ k. (behind.0 k, values.0 k)), values.1)
 
 pub attribute_shorter_blanks : (blanks text m : List ℕ) → Longest (Byte is_blank) blanks text m → (pair : List ℕ × List ℕ) (rest : List ℕ) → Attribute pair text rest →
     length m + 1 ≤ length text
 attribute_shorter_blanks blanks text m l pair rest a =
-    omega (arith, ap length (attribute_at blanks text m l pair rest a), ap length (run_is is_blank (a.blanks.0 ∷ a.blanks.3.0) text a.name_at (blanks_of pair text rest a)),
-      length-append a.blanks.3.0 a.name_at)
+    omega (
+      arith,
+      ap length (attribute_at blanks text m l pair rest a),
+      ap length (run_is is_blank (a.blanks.0 ∷ a.blanks.3.0) text a.name_at (blanks_of pair text rest a)),
+      length-append a.blanks.3.0 a.name_at,
+    )
 
 -- no attribute: no blank, no name, or no value
 pub attribute_never-blank : (blanks text m : List ℕ) → Longest (Byte is_blank) blanks text m → length m ≡ length text → Never Attribute text

@@ -1,5 +1,5 @@
 -- Comments, the declaration and the document type are read in one way only.
-use Rattle.std.proofs.Common.{ℕ, ◌+◌, ◌≡◌, ◌≤◌, ◌↔◌, Bool, true, false, IsTrue, ◌⊎◌, inl, inr, List, [], ◌∷◌, ◌++◌, length, refl, sym, ◌∙◌, ap, subst, codes, append_assoc}
+use Rattle.std.proofs.Common.{ℕ, ◌≡◌, true, IsTrue, ◌⊎◌, inl, inr, List, [], ◌∷◌, ◌++◌, refl, sym, ◌∙◌, ap, subst, codes}
 use Rattle.std.specs.List.{AllByRecursion}
 use Rattle.nif_text.specs.Parts.{Many, Byte, Literal, Lacks}
 use Rattle.nif_text.specs.Bytes.{is_allowed}
@@ -39,7 +39,7 @@ module _ (first second : ℕ) (tail : List ℕ) (clash : (m n : List ℕ) → fi
   insides (c ∷ x) [] m n l k e = absurd (at_once c x n m l (sym e))
   insides (c ∷ x) (d ∷ y) m n l k e =
       insides x y m n (lacks_tail first second c x l) (lacks_tail first second d y k)
-        (tail_same c d (x ++ (first ∷ second ∷ (tail ++ m))) (y ++ (first ∷ second ∷ (tail ++ n))) e)
+      (tail_same c d (x ++ (first ∷ second ∷ (tail ++ m))) (y ++ (first ∷ second ∷ (tail ++ n))) e)
 
   pub enclosed_same : (text m n : List ℕ) → Enclosed first second (first ∷ second ∷ tail) text m → Enclosed first second (first ∷ second ∷ tail) text n → m ≡ n
   enclosed_same text m n p q = insides p.inside q.inside m n p.free q.free (sym p.spelled ∙ q.spelled)
@@ -53,9 +53,9 @@ module _ (first second : ℕ) (tail : List ℕ) (text : List ℕ) (none : NoLite
     spelled = e ∙ ap (λ x. c ∷ x) p.spelled;
     allowed = (t, p.allowed);
     free = lacks_more first second c p.inside
-      (λ back one two. none (back ++ (first ∷ second ∷ (tail ++ rest)))
+        (λ back one two. none (back ++ (first ∷ second ∷ (tail ++ rest)))
         (e ∙ (λ k. one k ∷ (p.spelled ∙ ap (λ x. x ++ (first ∷ second ∷ (tail ++ rest))) two) k)))
-      p.free;
+        p.free;
   }
 
   pub enclosed_back : (c : ℕ) (more rest : List ℕ) → text ≡ c ∷ more → Enclosed first second (first ∷ second ∷ tail) text rest →
@@ -63,7 +63,7 @@ module _ (first second : ℕ) (tail : List ℕ) (text : List ℕ) (none : NoLite
   enclosed_back c more rest e p = shorter p.inside p.spelled p.allowed p.free
     where
       shorter : (inside : List ℕ) → text ≡ inside ++ (first ∷ second ∷ (tail ++ rest)) → AllByRecursion (λ d. IsTrue (is_allowed d)) inside → Lacks first second inside →
-        Enclosed first second (first ∷ second ∷ tail) more rest
+          Enclosed first second (first ∷ second ∷ tail) more rest
       shorter [] s a f = absurd (none (tail ++ rest) s)
       shorter (d ∷ inside) s a f = record {
         inside = inside;
@@ -99,7 +99,7 @@ pub type_behind : (text at : List ℕ) → Literal (codes "<!DOCTYPE") text at �
 type_behind text at l bytes m rest longest p =
     let Q : List ℕ → Type 0 = λ x. Many (Byte is_type_byte) bytes x m in
     (longest_same (Byte is_type_byte) (byte_single is_type_byte) bytes p.2 p.0 m (0x3E ∷ rest) (subst Q (literal_same (codes "<!DOCTYPE") text at p.0 l p.1) longest.many) longest.ends
-      p.3 (byte_never is_type_byte 0x3E rest refl)).1
+    p.3 (byte_never is_type_byte 0x3E rest refl)).1
 
 pub type_same : (text m n : List ℕ) → DocumentType text m → DocumentType text n → m ≡ n
 type_same text m n p q =

@@ -55,8 +55,9 @@ differ_not : (ns : List (List ℕ)) (x : List ℕ) (rest : List (List ℕ)) → 
 differ_not [] x rest e d = cc e
 differ_not (n ∷ ns) x rest e d =
     elim (one_true (is_eq (slice_cmp nat_cmp n x)) (among x ns) e) [
-      inl here ↦ all_at (λ other. n ≡ other → ⊥) ns x rest d.0 (same_name n x here)
-      | inr later ↦ differ_not ns x rest later d.1 ]
+      | inl here ↦ all_at (λ other. n ≡ other → ⊥) ns x rest d.0 (same_name n x here)
+      | inr later ↦ differ_not ns x rest later d.1
+    ]
 
 among_more : (q : List ℕ) (ns : List (List ℕ)) (x : List ℕ) → among q (ns ++ x ∷ []) ≡ cond (is_eq (slice_cmp nat_cmp x q)) true (among q ns)
 among_more q [] x = refl
@@ -75,7 +76,7 @@ module _ (attrs : List (List ℕ × List ℕ)) (place : ℕ) (within : place < l
   pub names_whole : map (λ p. p.0) attrs ≡ map (λ p. p.0) (take place attrs) ++ pair.0 ∷ map (λ p. p.0) (drop (place + 1) attrs)
   names_whole =
       ap (map (λ p. p.0)) (sym (take-append-drop (place + 1) attrs)) ∙ names_joined (take (place + 1) attrs) (drop (place + 1) attrs)
-        ∙ ap (λ l. l ++ map (λ p. p.0) (drop (place + 1) attrs)) names_more ∙ append_assoc (map (λ p. p.0) (take place attrs)) (pair.0 ∷ []) (map (λ p. p.0) (drop (place + 1) attrs))
+      ∙ ap (λ l. l ++ map (λ p. p.0) (drop (place + 1) attrs)) names_more ∙ append_assoc (map (λ p. p.0) (take place attrs)) (pair.0 ∷ []) (map (λ p. p.0) (drop (place + 1) attrs))
 
   pub differ_next : AllDiffer (map (λ p. p.0) (take place attrs)) → among pair.0 (map (λ p. p.0) (take place attrs)) ≡ false →
       AllDiffer (map (λ p. p.0) (take (place + 1) attrs))
@@ -88,12 +89,12 @@ module _ (attrs : List (List ℕ × List ℕ)) (place : ℕ) (within : place < l
 
   pub holds_next : (keys more : List (Bor (List ℕ))) (key : Bor (List ℕ)) → key.now ≡ pair.0 → Holds keys (map (λ p. p.0) (take place attrs)) →
       ((q : Bor (List ℕ)) → list_any (λ k. is_eq (slice_cmp nat_cmp q.now k.now)) more
-        ≡ cond (is_eq (slice_cmp nat_cmp key.now q.now)) true (list_any (λ k. is_eq (slice_cmp nat_cmp q.now k.now)) keys)) →
+      ≡ cond (is_eq (slice_cmp nat_cmp key.now q.now)) true (list_any (λ k. is_eq (slice_cmp nat_cmp q.now k.now)) keys)) →
       Holds more (map (λ p. p.0) (take (place + 1) attrs))
   holds_next keys more key same h updates q =
       updates q ∙ ap (λ b. cond (is_eq (slice_cmp nat_cmp key.now q.now)) true b) (h q)
-        ∙ ap (λ n. cond (is_eq (slice_cmp nat_cmp n q.now)) true (among q.now (map (λ p. p.0) (take place attrs)))) same
-        ∙ sym (among_more q.now (map (λ p. p.0) (take place attrs)) pair.0) ∙ ap (λ l. among q.now l) (sym names_more)
+      ∙ ap (λ n. cond (is_eq (slice_cmp nat_cmp n q.now)) true (among q.now (map (λ p. p.0) (take place attrs)))) same
+      ∙ sym (among_more q.now (map (λ p. p.0) (take place attrs)) pair.0) ∙ ap (λ l. among q.now l) (sym names_more)
 
 not_true : (b : Bool) → true ≡ not b → b ≡ false
 not_true true e = cc e

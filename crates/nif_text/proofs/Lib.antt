@@ -8,4 +8,5 @@ pub mod Attributes
 pub mod Differing
 pub mod Starts
 pub mod Comments
-pub mod Elements
+pub mod Nesting
+pub mod Documents

@@ -1,5 +1,5 @@
 -- Numbers of references.
-use Rattle.std.proofs.Common.{ℕ, ◌+◌, ◌*◌, ◌≡◌, ◌≢◌, ◌≤◌, ◌<◌, Bool, true, false, IsTrue, List, [], ◌∷◌, ◌++◌, length, refl, inl, inr, sym, ◌∙◌, ap, subst, arith, length-append}
+use Rattle.std.proofs.Common.{ℕ, ◌+◌, ◌*◌, ◌≡◌, ◌≤◌, ◌<◌, true, false, List, [], ◌∷◌, ◌++◌, length, refl, inl, inr, sym, ◌∙◌, ap, arith, length-append}
 use Rattle.std.proofs.Math.Nat.{mul-le-mul_left}
 use Rattle.std.proofs.lemmas.Bool.Decides.{nat_tests}
 use Rattle.nif_text.specs.Parts.{Many, Byte}
@@ -44,7 +44,7 @@ number_through base ds text rest c r m e n =
 pub number_single : (base : Base) → Single (Number (base_of base) (is_digit base))
 number_single base c d text m n p q =
     let same : (p.digits ≡ q.digits) × (0x3B ∷ m ≡ 0x3B ∷ n) =
-        number_through base p.digits text (0x3B ∷ m) d n p.run (byte_never (is_digit base) 0x3B m (no_semicolon base)) q in
+    number_through base p.digits text (0x3B ∷ m) d n p.run (byte_never (is_digit base) 0x3B m (no_semicolon base)) q in
     let tail : 0x3B ∷ m ≡ 0x3B ∷ n = same.1 in
     (p.value ∙ ap (λ ds. number (base_of base) 0 ds) same.0 ∙ sym q.value, cc tail)
 

@@ -1,7 +1,7 @@
 -- References are read in one way only.
-use Rattle.std.proofs.Common.{ℕ, ◌+◌, ◌≡◌, ◌≤◌, length, arith, length-append, Bool, true, false, cond, IsTrue, nat_eq, Option, Some, None, IfSome, IfNone, ◌⊎◌, inl, inr, List, [], ◌∷◌, ◌++◌, refl, sym, ◌∙◌, ap, subst, codes}
+use Rattle.std.proofs.Common.{ℕ, ◌+◌, ◌≡◌, ◌≤◌, length, arith, length-append, Bool, true, cond, nat_eq, Option, Some, None, IfSome, IfNone, ◌⊎◌, inl, inr, List, [], ◌∷◌, refl, sym, ◌∙◌, ap, subst, codes}
 use Rattle.nif_text.specs.Parts.{Many, Byte, Literal, After}
-use Rattle.nif_text.specs.References.{number, Number, Reference, Less, Greater, Ampersand, Quote, Apostrophe, Decimal, Hexadecimal, is_decimal, is_hexadecimal}
+use Rattle.nif_text.specs.References.{Number, Reference, Less, Greater, Ampersand, Quote, Apostrophe, Decimal, Hexadecimal, is_decimal, is_hexadecimal}
 use Rattle.nif_text.specs.declared.reference.Base.TheVariants.{Ten, Sixteen}
 use Rattle.nif_text.specs.Reading.{Never, NoLiteral, NoName}
 use Rattle.nif_text.proofs.Runs.{Single}
@@ -22,10 +22,10 @@ or_else c (Some rest) other = Some (c, rest)
 abbrev named : List ℕ → Option (ℕ × List ℕ)
 named text =
     or_else 0x3C (cut (codes "&lt;") text)
-        (or_else 0x3E (cut (codes "&gt;") text)
-        (or_else 0x26 (cut (codes "&amp;") text)
-        (or_else 0x22 (cut (codes "&quot;") text)
-        (or_else 0x27 (cut (codes "&apos;") text) None))))
+    (or_else 0x3E (cut (codes "&gt;") text)
+    (or_else 0x26 (cut (codes "&amp;") text)
+    (or_else 0x22 (cut (codes "&quot;") text)
+    (or_else 0x27 (cut (codes "&apos;") text) None))))
 
 abbrev Numeric : ℕ → List ℕ → List ℕ → Type 0
 Numeric c text rest = After (codes "&#") (Number 10 is_decimal) c text rest ⊎ After (codes "&#x") (Number 16 is_hexadecimal) c text rest

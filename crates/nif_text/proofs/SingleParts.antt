@@ -1,7 +1,7 @@
 -- Bytes, blanks and names are read in one way only.
-use Rattle.std.proofs.Common.{ℕ, ◌≡◌, Bool, true, false, IsTrue, List, [], ◌∷◌, ◌++◌, refl, sym, ◌∙◌, ap, subst}
+use Rattle.std.proofs.Common.{ℕ, ◌≡◌, Bool, true, false, List, [], ◌∷◌, ◌++◌, sym, ◌∙◌, ap, subst}
 use Rattle.nif_text.specs.Parts.{Many, Byte, Literal, After}
-use Rattle.nif_text.specs.Bytes.{is_blank, is_name_start, is_name_byte, Name, Blanks, SomeBlanks, Spaced}
+use Rattle.nif_text.specs.Bytes.{is_blank, is_name_start, is_name_byte, Name, Spaced}
 use Rattle.nif_text.specs.Reading.{Never, Longest}
 use Rattle.nif_text.proofs.Runs.{Single, longest_same}
 
@@ -39,7 +39,7 @@ pub behind_blanks : {I : Type 0} (P : I → List ℕ → List ℕ → Type 0) �
     (i : I) (blanks text m rest : List ℕ) → Longest (Byte is_blank) blanks text m → Spaced P i text rest → P i m rest
 behind_blanks P starts i blanks text m rest l s =
     let same : (s.1.0 ≡ blanks) × (s.0 ≡ m) =
-        longest_same (Byte is_blank) (byte_single is_blank) s.1.0 blanks text s.0 m s.1.1 (starts i s.0 rest s.2) l.many l.ends in
+    longest_same (Byte is_blank) (byte_single is_blank) s.1.0 blanks text s.0 m s.1.1 (starts i s.0 rest s.2) l.many l.ends in
     let Q : List ℕ → Type 0 = λ x. P i x rest in
     subst Q same.1 s.2
 

@@ -1,14 +1,14 @@
 -- Starts and ends are read in one way only.
-use Rattle.std.proofs.Common.{ℕ, ◌+◌, ◌≡◌, ◌≤◌, Bool, true, false, IsTrue, ◌⊎◌, inl, inr, Result, Ok, Err, List, [], ◌∷◌, ◌++◌, length, map, refl, sym, ◌∙◌, ap, subst, codes, append_assoc}
+use Rattle.std.proofs.Common.{ℕ, ◌≡◌, Bool, true, false, Err, List, [], ◌∷◌, ◌++◌, map, refl, sym, ◌∙◌, subst, codes}
 use Rattle.nif_text.specs.Parts.{Many, Byte, Literal}
-use Rattle.nif_text.specs.Bytes.{is_blank, is_name_byte, Name, Blanks}
+use Rattle.nif_text.specs.Bytes.{is_blank, is_name_byte, Name}
 use Rattle.nif_text.specs.Attributes.{Attribute}
 use Rattle.nif_text.specs.Elements.{bracket, AllDiffer, Start, StartOf, Finish}
 use Rattle.nif_text.specs.Reading.{Never, NoLiteral, NoBracket, Longest, AttributesRead, Read}
 use Rattle.nif_text.specs.declared.stop.Stop.{Stop}
 use Rattle.nif_text.specs.declared.stop.Stop.TheVariants as stops
 use Rattle.nif_text.proofs.Runs.{Single, longest_same}
-use Rattle.nif_text.proofs.Fronts.{heads_differ, tail_same}
+use Rattle.nif_text.proofs.Fronts.{heads_differ}
 use Rattle.nif_text.proofs.SingleParts.{byte_single, byte_never, name_same, literal_same}
 use Rattle.nif_text.proofs.Attributes.{attribute_single, bracket_no_name, blank_ends_name, attribute_at}
 
@@ -52,16 +52,16 @@ start_behind name attrs text rest h n others empty r s =
     let at : h.name_at ≡ s.name_at = literal_same (codes "<") text h.name_at s.name_at h.opens s.opens in
     let N : List ℕ → Type 0 = λ x. Name name x h.attrs_at in
     let names : (name ≡ n) × (h.attrs_at ≡ s.attrs_at) =
-        name_same name n s.name_at h.attrs_at s.attrs_at (subst N at h.named) h.whole s.named
-          (ends_name others s.attrs_at s.blanks_at s.attributes s.blanks.0 s.bracket_at s.blanks.1 empty r s.closes) in
+    name_same name n s.name_at h.attrs_at s.attrs_at (subst N at h.named) h.whole s.named
+    (ends_name others s.attrs_at s.blanks_at s.attributes s.blanks.0 s.bracket_at s.blanks.1 empty r s.closes) in
     let A : List ℕ → Type 0 = λ x. Many Attribute attrs x h.blanks_at in
     let all : (attrs ≡ others) × (h.blanks_at ≡ s.blanks_at) =
-        longest_same Attribute attribute_single attrs others s.attrs_at h.blanks_at s.blanks_at (subst A names.1 h.attributes.many) h.attributes.ends s.attributes
-          (no_attribute s.blanks.0 s.blanks_at s.bracket_at s.blanks.1 empty r s.closes) in
+    longest_same Attribute attribute_single attrs others s.attrs_at h.blanks_at s.blanks_at (subst A names.1 h.attributes.many) h.attributes.ends s.attributes
+    (no_attribute s.blanks.0 s.blanks_at s.bracket_at s.blanks.1 empty r s.closes) in
     let B : List ℕ → Type 0 = λ x. Many (Byte is_blank) h.blanks.0 x rest in
     let last : (h.blanks.0 ≡ s.blanks.0) × (rest ≡ s.bracket_at) =
-        longest_same (Byte is_blank) (byte_single is_blank) h.blanks.0 s.blanks.0 s.blanks_at rest s.bracket_at (subst B all.1 h.blanks.1.many) h.blanks.1.ends s.blanks.1
-          (bracket_no_byte is_blank refl refl empty s.bracket_at r s.closes) in
+    longest_same (Byte is_blank) (byte_single is_blank) h.blanks.0 s.blanks.0 s.blanks_at rest s.bracket_at (subst B all.1 h.blanks.1.many) h.blanks.1.ends s.blanks.1
+    (bracket_no_byte is_blank refl refl empty s.bracket_at r s.closes) in
     let L : List ℕ → Type 0 = λ x. Literal (bracket empty) x r in
     (names.0, all.0, subst L (sym last.1) s.closes)
 
@@ -87,7 +87,7 @@ bracket_same false true text m n p q = absurd (heads_differ 0x3E 0x2F m (0x3E �
 pub start_single : Single StartOf
 start_single x y text m n p q =
     let behind : (x.0 ≡ y.0) × (x.1 ≡ y.1) × Literal (bracket y.2) p.bracket_at n =
-        start_behind x.0 x.1 text p.bracket_at (head_of x.0 x.1 x.2 text m p) y.0 y.1 y.2 n q in
+    start_behind x.0 x.1 text p.bracket_at (head_of x.0 x.1 x.2 text m p) y.0 y.1 y.2 n q in
     let ends : (x.2 ≡ y.2) × (m ≡ n) = bracket_same x.2 y.2 p.bracket_at m n p.closes behind.2 in
     ((λ k. (behind.0 k, behind.1 k, ends.0 k)), ends.1)
 
@@ -113,7 +113,15 @@ pub start_stops : (e : Stop) (name text at m some new : List ℕ) → Literal (c
     Read StartOf text new (Err e)
 start_stops stops.NotWritten name text at m some new l n whole read =
     start_never-bracket name read.0 text read.4 (record {
-      name_at = at; attrs_at = m; blanks_at = read.1; opens = l; named = n; whole = whole; attributes = read.2; blanks = (read.3, read.5) }) read.6
+      name_at = at;
+      attrs_at = m;
+      blanks_at = read.1;
+      opens = l;
+      named = n;
+      whole = whole;
+      attributes = read.2;
+      blanks = (read.3, read.5);
+    }) read.6
 start_stops stops.NoMemory name text at m some new l n whole read = tt
 
 -- the end of an element
@@ -122,8 +130,8 @@ finish_same name text m n p q =
     let at : p.blanks_at ≡ q.blanks_at = literal_same (codes "</" ++ name) text p.blanks_at q.blanks_at p.named q.named in
     let B : List ℕ → Type 0 = λ x. Many (Byte is_blank) p.blanks.0 x p.bracket_at in
     let last : (p.blanks.0 ≡ q.blanks.0) × (p.bracket_at ≡ q.bracket_at) =
-        longest_same (Byte is_blank) (byte_single is_blank) p.blanks.0 q.blanks.0 q.blanks_at p.bracket_at q.bracket_at (subst B at p.blanks.1)
-          (bracket_no_byte is_blank refl refl false p.bracket_at m p.closes) q.blanks.1 (bracket_no_byte is_blank refl refl false q.bracket_at n q.closes) in
+    longest_same (Byte is_blank) (byte_single is_blank) p.blanks.0 q.blanks.0 q.blanks_at p.bracket_at q.bracket_at (subst B at p.blanks.1)
+    (bracket_no_byte is_blank refl refl false p.bracket_at m p.closes) q.blanks.1 (bracket_no_byte is_blank refl refl false q.bracket_at n q.closes) in
     let L : List ℕ → Type 0 = λ x. Literal (codes ">") x m in
     literal_same (codes ">") q.bracket_at m n (subst L last.1 p.closes) q.closes
 
@@ -143,6 +151,6 @@ pub finish_never-bracket : (name text next m blanks last : List ℕ) → Literal
 finish_never-bracket name text next m blanks last l n longest none _ rest f =
     let B : List ℕ → Type 0 = λ x. Many (Byte is_blank) blanks x last in
     let same : (blanks ≡ f.blanks.0) × (last ≡ f.bracket_at) =
-        longest_same (Byte is_blank) (byte_single is_blank) blanks f.blanks.0 f.blanks_at last f.bracket_at (subst B (finish_at name text next m rest l n f) longest.many) longest.ends
-          f.blanks.1 (bracket_no_byte is_blank refl refl false f.bracket_at rest f.closes) in
+    longest_same (Byte is_blank) (byte_single is_blank) blanks f.blanks.0 f.blanks_at last f.bracket_at (subst B (finish_at name text next m rest l n f) longest.many) longest.ends
+    f.blanks.1 (bracket_no_byte is_blank refl refl false f.bracket_at rest f.closes) in
     none rest (same.1 ∙ f.closes)

@@ -1,8 +1,8 @@
 -- Values are read in one way only.
-use Rattle.std.proofs.Common.{ℕ, ◌+◌, ◌≡◌, ◌≤◌, Bool, true, false, IsTrue, ◌⊎◌, inl, inr, Result, Ok, Err, List, [], ◌∷◌, ◌++◌, length, refl, sym, ◌∙◌, ap, subst, arith, append_assoc, append-nil, length-append}
+use Rattle.std.proofs.Common.{ℕ, ◌≡◌, inl, inr, Result, Ok, Err, List, [], ◌∷◌, ◌++◌, refl, sym, ◌∙◌, ap, subst, append_assoc, append-nil}
 use Rattle.std.specs.Char.{encode_utf8}
-use Rattle.nif_text.specs.Parts.{Many, Byte, Literal, After}
-use Rattle.nif_text.specs.Bytes.{is_blank, Blanks, Spaced}
+use Rattle.nif_text.specs.Parts.{Byte, Literal, After}
+use Rattle.nif_text.specs.Bytes.{is_blank, Spaced}
 use Rattle.nif_text.specs.References.{Reference}
 use Rattle.nif_text.specs.Attributes.{is_value_byte, kept, ValuePart, joined, Quoted, Value, Assigned}
 use Rattle.nif_text.specs.Reading.{Never, NoLiteral, Longest, Read, IsQuote}
@@ -47,7 +47,7 @@ pub quoted_through : (quote : ℕ) → IsQuote quote → (parts : List (List ℕ
     (v rest : List ℕ) → Quoted quote v text rest → (v ≡ joined parts) × (m ≡ quote ∷ rest)
 quoted_through quote q parts text m l v rest p =
     let same : (p.0 ≡ parts) × (quote ∷ rest ≡ m) =
-        longest_same (ValuePart quote) (part_single quote) p.0 parts text (quote ∷ rest) m p.2 (quote_ends quote rest q) l.many l.ends in
+    longest_same (ValuePart quote) (part_single quote) p.0 parts text (quote ∷ rest) m p.2 (quote_ends quote rest q) l.many l.ends in
     (p.1 ∙ ap joined same.0, sym same.1)
 
 pub quoted_single : (quote : ℕ) → IsQuote quote → Single (Quoted quote)
@@ -110,9 +110,14 @@ pub read_assigned : (found : Result (List ℕ) Stop) (before text m after at new
 read_assigned (Ok v) before text m after at new l e blanks k r = (m, (before, l.many), (at, e, (after, (blanks, k.many), r)))
 read_assigned (Err stops.NotWritten) before text m after at new l e blanks k r =
     spaced_never (After (0x3D ∷ []) (Spaced Value)) equals_no_blank before text m l
-      (after_never (0x3D ∷ []) (Spaced Value) m at e (spaced_never Value value_no_blank blanks at after k r))
+    (after_never (0x3D ∷ []) (Spaced Value) m at e (spaced_never Value value_no_blank blanks at after k r))
 read_assigned (Err stops.NoMemory) before text m after at new l e blanks k r = tt
 
 pub assigned_never : (before text m : List ℕ) → Longest (Byte is_blank) before text m → NoLiteral (0x3D ∷ []) m → Never Assigned text
 assigned_never before text m l none =
     spaced_never (After (0x3D ∷ []) (Spaced Value)) equals_no_blank before text m l (λ v rest a. none a.0 a.1)
+
+-- what the parts stand for so far, with one part more
+pub joined_behind : (before out now part : List ℕ) (parts : List (List ℕ)) → out ≡ before ++ joined parts → now ≡ out ++ part → now ≡ before ++ joined (parts ++ part ∷ [])
+joined_behind before out now part parts e f =
+    f ∙ ap (λ x. x ++ part) e ∙ append_assoc before (joined parts) part ∙ ap (λ x. before ++ x) (sym (joined_more parts part))

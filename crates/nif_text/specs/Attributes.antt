@@ -1,7 +1,7 @@
 -- Attributes and their values.
-use Rattle.std.specs.Prelude.{ℕ, ◌≡◌, Bool, not, ◌&&◌, ◌||◌, ◌==◌, ◌⊎◌, if◌then◌else◌, List, [], ◌∷◌, ◌++◌}
+use Rattle.std.specs.Prelude.{ℕ, ◌≡◌, Bool, not, ◌&&◌, ◌==◌, ◌⊎◌, if◌then◌else◌, List, [], ◌∷◌, ◌++◌}
 use Rattle.std.specs.Char.{encode_utf8}
-use Rattle.nif_text.specs.Parts.{Many, Byte, Literal, After}
+use Rattle.nif_text.specs.Parts.{Many, Byte, After}
 use Rattle.nif_text.specs.Bytes.{is_blank, is_allowed, Name, SomeBlanks, Spaced}
 use Rattle.nif_text.specs.References.{Reference}
 

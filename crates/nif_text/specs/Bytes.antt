@@ -1,5 +1,5 @@
 -- The kinds of bytes, blanks and names.
-use Rattle.std.specs.Prelude.{ℕ, Bool, not, ◌&&◌, ◌||◌, ◌==◌, nat_le, List, [], ◌∷◌}
+use Rattle.std.specs.Prelude.{ℕ, Bool, ◌&&◌, ◌||◌, ◌==◌, nat_le, List, [], ◌∷◌}
 use Rattle.nif_text.specs.Parts.{Many, Byte}
 
 -- from one byte to another, both included

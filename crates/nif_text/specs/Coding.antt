@@ -1,9 +1,10 @@
--- A code for trees, so that a struct may be seen as one.
-use Rattle.std.specs.Prelude.{ℕ, ◌≡◌, List, [], ◌∷◌, refl}
-use Rattle.std.proofs.Common.{sym, ◌∙◌, ap}
+-- What a struct needs that is seen as a tree: a code for trees, and that no child is as deep as its parent.
+use Rattle.std.specs.Prelude.{ℕ, ◌≡◌, ◌+◌, ◌≤◌, List, [], ◌∷◌, refl}
+use Rattle.std.proofs.Common.{sym, ◌∙◌, ap, arith}
 use Rattle.std.specs.Coded.{Coded}
+use denote.Param.Weighed.{most}
 use base.Stored.{Gv, gnil, gnum, gcons, num}
-use Rattle.nif_text.specs.Tree.{Tree, Trees, Node, End, Then}
+use Rattle.nif_text.specs.Tree.{Tree, Trees, Node, End, Then, trees, depth, depths}
 
 abbrev pub code_bytes : List ℕ → Gv
 code_bytes [] = gnil
@@ -70,3 +71,8 @@ mutual
 
 abbrev pub coded_tree : Coded Tree
 coded_tree = record { code = code; inj = λ x y p. sym (back-code x) ∙ ap back p ∙ back-code y }
+
+-- no child is as deep as its parent
+pub most_le-depths : (children : List Tree) → most (λ t. depth t + 1) children ≤ 1 + depths (trees children)
+most_le-depths [] = omega arith
+most_le-depths (t ∷ ts) = omega (arith, most_le-depths ts)

@@ -1,5 +1,5 @@
 -- Comments, the declaration and the document type.
-use Rattle.std.specs.Prelude.{ℕ, ◌≡◌, Bool, IsTrue, not, ◌&&◌, ◌||◌, ◌==◌, List, [], ◌∷◌, ◌++◌, codes}
+use Rattle.std.specs.Prelude.{ℕ, ◌≡◌, Bool, IsTrue, not, ◌&&◌, ◌==◌, List, ◌∷◌, ◌++◌, codes}
 use Rattle.std.specs.List.{AllByRecursion}
 use Rattle.nif_text.specs.Parts.{Many, Byte, Literal, Lacks}
 use Rattle.nif_text.specs.Bytes.{is_allowed}

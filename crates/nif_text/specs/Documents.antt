@@ -1,5 +1,5 @@
 -- Schema texts as a whole.
-use Rattle.std.specs.Prelude.{ℕ, ◌≡◌, ◌≤◌, Bool, false, ◌⊎◌, Option, List, [], ◌∷◌, ◌++◌, length}
+use Rattle.std.specs.Prelude.{ℕ, ◌≡◌, ◌≤◌, false, ◌⊎◌, Option, List, [], ◌∷◌, length}
 use Rattle.nif_text.specs.Tree.{Tree}
 use Rattle.nif_text.specs.Parts.{Many, Byte, Literal, Optional}
 use Rattle.nif_text.specs.Bytes.{is_blank}

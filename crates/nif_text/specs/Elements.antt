@@ -63,11 +63,11 @@ children_among (None ∷ pieces) = children_among pieces
 -- An element is a start without content, or a start, pieces of content in any order, and the end.
 pub data Spelled (Child : Tree → List ℕ → List ℕ → Type 0) : Tree → List ℕ → List ℕ → Type 0 where
   Empty : {name : List ℕ} {attrs : List (List ℕ × List ℕ)} {text rest : List ℕ} →
-    Start name attrs true text rest → Spelled Child (Node name attrs End) text rest
+      Start name attrs true text rest → Spelled Child (Node name attrs End) text rest
   Full : {name : List ℕ} {attrs : List (List ℕ × List ℕ)} {children : Trees} {text rest : List ℕ} →
-    (content_at finish_at : List ℕ) (pieces : List (Option Tree)) →
-    Start name attrs false text content_at → Many (Piece Child) pieces content_at finish_at → Finish name finish_at rest →
-    children ≡ trees (children_among pieces) → Spelled Child (Node name attrs children) text rest
+      (content_at finish_at : List ℕ) (pieces : List (Option Tree)) →
+      Start name attrs false text content_at → Many (Piece Child) pieces content_at finish_at → Finish name finish_at rest →
+      children ≡ trees (children_among pieces) → Spelled Child (Node name attrs children) text rest
 
 -- an element that nests at most so many levels deep, itself counted
 unfoldable pub Nested : ℕ → Tree → List ℕ → List ℕ → Type 0

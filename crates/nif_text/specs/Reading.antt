@@ -55,7 +55,7 @@ AttributeRead old new (Err stops.NoMemory) = Unit {0}
 abbrev pub AttributesRead : List ℕ → List ℕ → Result (List (List ℕ × List ℕ)) Stop → Type 0
 AttributesRead old new (Ok attrs) = (next : List ℕ) × Longest Attribute attrs old next × (blanks : List ℕ) × Longest (Byte is_blank) blanks next new
 AttributesRead old new (Err stops.NotWritten) = (attrs : List (List ℕ × List ℕ)) × (next : List ℕ) × Longest Attribute attrs old next
-  × (blanks last : List ℕ) × Longest (Byte is_blank) blanks next last × NoBracket last
+    × (blanks last : List ℕ) × Longest (Byte is_blank) blanks next last × NoBracket last
 AttributesRead old new (Err stops.NoMemory) = Unit {0}
 
 -- What is enclosed from the old place is what is enclosed from the new one, whatever the rest of the end is.
@@ -110,3 +110,7 @@ abbrev pub RootRead : List ℕ → List ℕ → Result Tree TextFault → Type 0
 RootRead old new (Ok tree) = Nested 64 tree old new × IsAfterRoot old (length (children_of tree))
 RootRead old new (Err (faults.NotWritten count)) = Never (Nested 64) old × IsAfterRoot old count
 RootRead old new (Err faults.NoMemory) = Unit {0}
+
+-- no declaration comes next
+abbrev pub NoDeclaration : List ℕ → Type 0
+NoDeclaration text = NoLiteral (codes "<?xml") text

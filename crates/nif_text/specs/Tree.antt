@@ -1,7 +1,5 @@
 -- An element as a plain tree.
-use Rattle.std.specs.Prelude.{ℕ, ◌+◌, ◌≤◌, List, [], ◌∷◌, max}
-use Rattle.std.proofs.Common.{arith}
-use denote.Param.Weighed.{most}
+use Rattle.std.specs.Prelude.{ℕ, ◌+◌, List, [], ◌∷◌, max}
 
 mutual
   -- An element has a name, its attributes in their order, each a name and a value, and the elements that stand right in it.
@@ -40,8 +38,3 @@ abbrev mutual
   pub depths : Trees → ℕ
   depths End = 0
   depths (Then tree rest) = max (depth tree) (depths rest)
-
--- no child is as deep as its parent
-pub most_le-depths : (children : List Tree) → most (λ t. depth t + 1) children ≤ 1 + depths (trees children)
-most_le-depths [] = omega arith
-most_le-depths (t ∷ ts) = omega (arith, most_le-depths ts)

@@ -145,6 +145,23 @@ impl<'a> Cursor<'a> {
         }
     }
 
+    /// Goes over one byte of a kind where one comes next.
+    pub fn eat_byte(&mut self, kind: Kind) -> bool
+        ensures yes { IsTrue result → (c : ℕ) × Byte (passes kind) c self.old self.new }
+        ensures no { result ≡ false → Never (Byte (passes kind)) self.old }
+        ensures stays { result ≡ false → self.new ≡ self.old }
+        ensures shorter { length self.new + (if result then 1 else 0) ≤ length self.old }
+    {
+        let Some((c, rest)) = self.rest.split_first() else {
+            return false;
+        };
+        if !kind.has(*c) {
+            return false;
+        }
+        self.rest = rest;
+        true
+    }
+
     /// Goes over all blanks that come next.
     pub fn skip_blanks(&mut self)
         ensures run { (blanks : List ℕ) × Longest (Byte is_blank) blanks self.old self.new }

@@ -47,6 +47,7 @@ fn all_differ(alloc: Global, attrs: &Attrs) -> Result<bool, NoMemory>
 pub fn start(text: &mut Cursor<'_>, alloc: Global) -> Result<(Word, Attrs, bool), Stop>
     ensures read { Read StartOf text.old text.new result }
     ensures shorter { OnOk result (length text.new + 1 ≤ length text.old) }
+    ensures short { length text.old ≤ 2 ^ 22 }
 {
     if !text.eat(b"<") {
         return Err(Stop::NotWritten);

@@ -79,8 +79,8 @@ pub struct Element {
 impl Model for Element {
     ghost use Rattle.std.specs.Prelude.{◌+◌, ◌≤◌};
     ghost use Rattle.std.proofs.Common.{arith};
-    ghost use Rattle.nif_text.specs.Tree.{Tree, Node, trees, depth, most_le-depths};
-    ghost use Rattle.nif_text.specs.Coding.{coded_tree};
+    ghost use Rattle.nif_text.specs.Tree.{Tree, Node, trees, depth};
+    ghost use Rattle.nif_text.specs.Coding.{coded_tree, most_le-depths};
 
     ghost Value = { Tree };
 

@@ -49,7 +49,9 @@ fn value_part(text: &mut Cursor<'_>, quote: u8, out: &mut Vec<u8>) -> Result<boo
         (Never (ValuePart quote) text.old × (text.new ≡ text.old) × (out.new.items ≡ out.old.items))) }
     ensures shorter { IfOk result (λ more. length text.new + (if more then 1 else 0) ≤ length text.old) }
 {
-    if let Some((c, rest)) = text.rest().split_first() && stands_in_value(quote, *c) {
+    if let Some((c, rest)) = text.rest().split_first()
+        && stands_in_value(quote, *c)
+    {
         push_byte(out, kept_byte(*c))?;
         text.go_to(rest);
         return Ok(true);

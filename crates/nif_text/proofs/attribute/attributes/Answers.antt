@@ -1,5 +1,4 @@
-use Rattle.std.proofs.Common.{List, ℕ, [], ◌∷◌, ◌++◌, arith, sym, subst, length, ap, length-append}
-use Rattle.nif_text.specs.Parts.{Many}
+use Rattle.std.proofs.Common.{[], ◌∷◌, arith, length, ap, length-append}
 use Rattle.nif_text.specs.Attributes.{Attribute}
 use Rattle.nif_text.proofs.Runs.{many_more}
 use Rattle.nif_text.proofs.attribute.attributes.Goals as goal

@@ -1,4 +1,4 @@
-use Rattle.std.proofs.Common.{ℕ, ◌≡◌, ◌+◌, ◌^◌, ◌≤◌, List, ◌++◌, length}
+use Rattle.std.proofs.Common.{◌+◌, ◌≤◌, length}
 use Rattle.nif_text.specs.Parts.{Many}
 use Rattle.nif_text.specs.Attributes.{Attribute}
 use Rattle.nif_text.proofs.attribute.attributes.Given as goal

@@ -1,4 +1,4 @@
-use Rattle.std.proofs.Common.{ℕ, ◌≤◌, List, length}
+use Rattle.std.proofs.Common.{◌≤◌, length}
 use Rattle.nif_text.specs.Reading.{SameEnclosed}
 use Rattle.nif_text.proofs.comment.go_to_pair.Given as goal
 

@@ -19,4 +19,4 @@ returns-then-eat-4-clause-some c =
 pub returns-then-eat-5-clause-some : goal.returns-then-eat-5-clause-some
 returns-then-eat-5-clause-some c =
     Apostrophe (sym (c.if-eat.ensures.stays refl) ∙ sym (c.if-eat-2.ensures.stays refl) ∙ sym (c.if-eat-3.ensures.stays refl) ∙ sym (c.if-eat-4.ensures.stays refl)
-      ∙ c.if-eat-5.ensures.yes refl)
+    ∙ c.if-eat-5.ensures.yes refl)

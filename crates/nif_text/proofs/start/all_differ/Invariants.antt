@@ -1,4 +1,4 @@
-use Rattle.std.proofs.Common.{ℕ, ◌≡◌, ◌≤◌, List, length, take, map, Bor}
+use Rattle.std.proofs.Common.{take, map}
 use Rattle.nif_text.specs.Elements.{AllDiffer}
 use Rattle.nif_text.proofs.Differing.{Holds}
 use Rattle.nif_text.proofs.start.all_differ.Given as goal

@@ -12,4 +12,4 @@ returns-clause-value c =
     let run = c.skip_blanks.ensures.run in
     let again = c.skip_blanks-2.ensures.run in
     read_assigned c.value.result run.0 c.args.text.now c.skip_blanks.new.self c.skip_blanks-2.new.self c.eat.new.self c.value.new.text run.1
-      (c.if-not-eat.ensures.yes refl) again.0 again.1 c.value.ensures.value
+    (c.if-not-eat.ensures.yes refl) again.0 again.1 c.value.ensures.value

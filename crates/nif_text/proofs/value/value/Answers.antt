@@ -9,4 +9,4 @@ returns-then-eat-clause-value c =
 pub returns-then-eat-2-clause-value : goal.returns-then-eat-2-clause-value
 returns-then-eat-2-clause-value c =
     read_single c.quoted-then-eat-2.result c.args.text.now c.eat-2.new.self c.quoted-then-eat-2.new.text
-      (sym (c.if-eat.ensures.stays refl) ∙ c.if-eat-2.ensures.yes refl) c.quoted-then-eat-2.ensures.value
+    (sym (c.if-eat.ensures.stays refl) ∙ c.if-eat-2.ensures.yes refl) c.quoted-then-eat-2.ensures.value

@@ -1,19 +1,21 @@
-use Rattle.std.proofs.Common.{ℕ, ◌≡◌, List, [], ◌∷◌, ◌++◌, sym, ◌∙◌, ap, subst, arith, append_assoc}
-use Rattle.nif_text.specs.Parts.{Many}
-use Rattle.nif_text.specs.Attributes.{ValuePart, joined}
+use Rattle.std.proofs.Common.{ℕ, List, [], ◌∷◌, ◌++◌, sym, ◌∙◌, subst, arith}
+use Rattle.nif_text.specs.Attributes.{ValuePart}
 use Rattle.nif_text.specs.Reading.{Longest}
 use Rattle.nif_text.proofs.Runs.{many_more}
-use Rattle.nif_text.proofs.Values.{joined_more}
+use Rattle.nif_text.proofs.Values.{joined_behind}
 use Rattle.nif_text.proofs.value.value_parts.Goals as goal
 
 pub loop-preserved : goal.loop-preserved
 loop-preserved c =
     let run = c.loop.invariant.0 in
-    let part = rw c.if-branch.true at c.in_ok-value_part.ensures.part in
-    ((run.0 ++ part.0 ∷ [],
-      many_more (ValuePart c.args.quote) run.0 part.0 c.args.text.now c.loop.text c.value_part.new.text run.1 part.1,
-      part.2 ∙ ap (λ x. x ++ part.0) run.2 ∙ append_assoc c.args.out.now.items (joined run.0) part.0 ∙ ap (λ x. c.args.out.now.items ++ x) (sym (joined_more run.0 part.0))),
-     omega (arith, c.in_ok-value_part.ensures.shorter))
+    let part = rw c.if-branch.true at c.in_ok-value_part.ensures.part in (
+      (
+        run.0 ++ part.0 ∷ [],
+        many_more (ValuePart c.args.quote) run.0 part.0 c.args.text.now c.loop.text c.value_part.new.text run.1 part.1,
+        joined_behind c.args.out.now.items c.loop.out.items c.value_part.new.out.items part.0 run.0 run.2 part.2,
+      ),
+      omega (arith, c.in_ok-value_part.ensures.shorter),
+    )
 
 pub returns-clause-run : goal.returns-clause-run
 returns-clause-run c =

@@ -1,8 +1,7 @@
 //! Elements and their content.
 ghost use Rattle.std.specs.Prelude.{◌≡◌, ℕ, ◌+◌, ◌^◌, ◌<◌, ◌≤◌, Bool, true, false, IsTrue, List, [], ◌∷◌, ◌++◌, length, IfOk, OnOk, if◌then◌else◌};
-ghost use Rattle.nif_text.specs.Parts.{Byte};
-ghost use Rattle.nif_text.specs.Elements.{Nested, PassedOver, is_text_byte};
-ghost use Rattle.nif_text.specs.Reading.{Never, NeverTo, Read, PieceRead, ContentRead};
+ghost use Rattle.nif_text.specs.Elements.{Nested, PassedOver};
+ghost use Rattle.nif_text.specs.Reading.{NeverTo, Read, PieceRead, ContentRead};
 
 use crate::comment::comment;
 use crate::cursor::{Cursor, Kind};
@@ -12,23 +11,6 @@ use crate::stop::Stop;
 use crate::tree::Element;
 use std::alloc::Global;
 
-/// Goes over a byte of text where one comes next. Otherwise the text stays where it is.
-fn text_byte(text: &mut Cursor<'_>) -> bool
-    ensures yes { IsTrue result → (c : ℕ) × Byte is_text_byte c text.old text.new }
-    ensures no { result ≡ false → Never (Byte is_text_byte) text.old }
-    ensures stays { result ≡ false → text.new ≡ text.old }
-    ensures shorter { length text.new + (if result then 1 else 0) ≤ length text.old }
-{
-    let Some((c, rest)) = text.rest().split_first() else {
-        return false;
-    };
-    if !Kind::Text.has(*c) {
-        return false;
-    }
-    text.go_to(rest);
-    true
-}
-
 /// Goes over text or a comment where one comes next. Otherwise the text stays where it is.
 fn passed_over(text: &mut Cursor<'_>) -> bool
     ensures yes { IsTrue result → PassedOver text.old text.new }
@@ -36,7 +18,7 @@ fn passed_over(text: &mut Cursor<'_>) -> bool
     ensures stays { result ≡ false → text.new ≡ text.old }
     ensures shorter { length text.new + (if result then 1 else 0) ≤ length text.old }
 {
-    if text_byte(text) {
+    if text.eat_byte(Kind::Text) {
         return true;
     }
     if let Some(_) = reference(text) {
@@ -47,7 +29,12 @@ fn passed_over(text: &mut Cursor<'_>) -> bool
 
 /// The next piece of content. A child goes behind the others. False where the end of the element comes next.
 #[cycle(elements)]
-fn piece(text: &mut Cursor<'_>, alloc: Global, levels: u32, children: &mut Vec<Element>) -> Result<bool, Stop>
+fn piece(
+    text: &mut Cursor<'_>,
+    alloc: Global,
+    levels: u32,
+    children: &mut Vec<Element>,
+) -> Result<bool, Stop>
     ensures read { PieceRead (Nested levels) text.old text.new children.old.items children.new.items result }
     ensures shorter { IfOk result (λ more. length text.new + (if more then 1 else 0) ≤ length text.old) }
     ensures one { length children.new.items ≤ length children.old.items + 1 }
@@ -67,7 +54,12 @@ fn piece(text: &mut Cursor<'_>, alloc: Global, levels: u32, children: &mut Vec<E
 
 /// All pieces of content. The children go behind the others.
 #[cycle(elements)]
-pub fn content(text: &mut Cursor<'_>, alloc: Global, levels: u32, children: &mut Vec<Element>) -> Result<(), Stop>
+pub fn content(
+    text: &mut Cursor<'_>,
+    alloc: Global,
+    levels: u32,
+    children: &mut Vec<Element>,
+) -> Result<(), Stop>
     ensures read { ContentRead (Nested levels) text.old text.new children.old.items children.new.items result }
     ensures shorter { OnOk result (length text.new ≤ length text.old) }
     ensures few { length children.new.items ≤ length children.old.items + length text.old + 1 }

@@ -1,8 +1,8 @@
-use Rattle.std.proofs.Common.{ℕ, ◌≡◌, ◌+◌, ◌*◌, ◌≤◌, List, ◌++◌, length, Option}
+use Rattle.std.proofs.Common.{◌≡◌, ◌+◌, ◌*◌, ◌≤◌, List, ◌++◌, length, Option}
 use Rattle.nif_text.specs.Tree.{Tree}
 use Rattle.nif_text.specs.Parts.{Many}
 use Rattle.nif_text.specs.Elements.{Piece, children_among, Nested}
-use Rattle.nif_text.proofs.element.+elements.Given as goal
+use Rattle.nif_text.proofs.elements.+elements.Given as goal
 
 abbrev pub decreases-content : goal.decreases-content
 decreases-content l = 3 * l.levels + 2

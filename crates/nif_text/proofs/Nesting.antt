@@ -1,6 +1,6 @@
 -- Elements are read in one way only.
-use Rattle.std.proofs.Common.{ℕ, zero, suc, ◌+◌, ◌-◌, ◌<◌, ◌≡◌, ◌≤◌, Bool, true, false, IsTrue, ◌⊎◌, inl, inr, Option, Some, None, Result, Ok, Err, List, [], ◌∷◌, ◌++◌, length, refl, sym, ◌∙◌, ap, subst, arith, codes, append_assoc, append-nil}
-use Rattle.nif_text.specs.Tree.{Tree, Trees, Node, End, trees}
+use Rattle.std.proofs.Common.{ℕ, zero, suc, ◌-◌, ◌≡◌, Bool, true, false, inl, inr, Option, Some, None, Ok, Err, List, [], ◌∷◌, ◌++◌, refl, sym, ◌∙◌, ap, subst, arith, codes, append_assoc}
+use Rattle.nif_text.specs.Tree.{Tree, Node, End, trees}
 use Rattle.nif_text.specs.Parts.{Many, Byte, Literal}
 use Rattle.nif_text.specs.Bytes.{is_name_start, Name}
 use Rattle.nif_text.specs.References.{Reference}
@@ -76,12 +76,11 @@ passed_not_end text m rest l (inr (inl p)) =
 passed_not_end text m rest l (inr (inr p)) =
     heads_differ 0x21 0x2F (0x2D ∷ 0x2D ∷ p.0) m refl (tail_same 0x3C 0x3C (0x21 ∷ 0x2D ∷ 0x2D ∷ p.0) (0x2F ∷ m) (sym p.1 ∙ l))
 
-pub Opening : (Tree → List ℕ → List ℕ → Type 0) → Type 0
+abbrev pub Opening : (Tree → List ℕ → List ℕ → Type 0) → Type 0
 Opening Child = (tree : Tree) (text rest : List ℕ) → Child tree text rest → Begins text
 
 module _ (Child : Tree → List ℕ → List ℕ → Type 0) (single : Single Child) (opening : Opening Child) where
   pub piece_single : Single (Piece Child)
-  unfolding Opening
   piece_single (Some x) (Some y) text m n p q =
       let same : (x ≡ y) × (m ≡ n) = single x y text m n p q in (ap (λ t. Some t) same.0, same.1)
   piece_single (Some x) None text m n p q = absurd (begins_not_passed text n (opening x text m p) q)
@@ -89,7 +88,6 @@ module _ (Child : Tree → List ℕ → List ℕ → Type 0) (single : Single Ch
   piece_single None None text m n p q = (refl, passed_same text m n p q)
 
   pub end_no_piece : (text m : List ℕ) → Literal (codes "</") text m → Never (Piece Child) text
-  unfolding Opening
   end_no_piece text m l (Some x) rest p = begins_not_second 0x2F text m refl (opening x text rest p) l
   end_no_piece text m l None rest p = passed_not_end text m rest l p
 
@@ -146,12 +144,11 @@ pub no_end : (name text : List ℕ) → NoLiteral (codes "</") text → NeverTo 
 no_end name text none rest f = none (name ++ f.blanks_at) f.named
 
 spelled_opening : (Child : Tree → List ℕ → List ℕ → Type 0) → Opening (Spelled Child)
-unfolding Opening
 spelled_opening Child _ text rest (Empty {name = a} {attrs = b} s) = start_begins a b true text rest s
 spelled_opening Child _ text rest (Full {name = a} {attrs = b} at finish pieces s run f e) = start_begins a b false text at s
 
 pub nested_opening : (levels : ℕ) → Opening (Nested levels)
-unfolding Opening Nested
+unfolding Nested
 nested_opening zero tree text rest p = elim p [ ]
 nested_opening (suc levels) tree text rest p = spelled_opening (Nested levels) tree text rest p
 
@@ -203,8 +200,8 @@ module _ (levels : ℕ) (some : levels ≡ 0 → ⊥) (text : List ℕ) where
         Read (Nested levels) text new (Err e)
     element_stops-content stops.NotWritten mid new before now read =
         nested_never levels some text
-          (spelled_never-content (Nested (levels - 1)) (nested_single (levels - 1)) (nested_opening (levels - 1)) name attrs text at read.1 read.0 full_start read.2
-            (no_end name read.1 read.3))
+        (spelled_never-content (Nested (levels - 1)) (nested_single (levels - 1)) (nested_opening (levels - 1)) name attrs text at read.1 read.0 full_start read.2
+        (no_end name read.1 read.3))
     element_stops-content stops.NoMemory mid new before now read = tt
 
     pub element_stops-finish : (e : Stop) (bytes : List ℕ) → bytes ≡ name → (m mid new : List ℕ) (pieces : List (Option Tree)) → Longest (Piece (Nested (levels - 1))) pieces at m →
@@ -212,8 +209,8 @@ module _ (levels : ℕ) (some : levels ≡ 0 → ⊥) (text : List ℕ) where
     element_stops-finish stops.NotWritten bytes same m mid new pieces l never =
         let Q : List ℕ → Type 0 = λ x. NeverTo (Finish x) m in
         nested_never levels some text
-          (spelled_never-content (Nested (levels - 1)) (nested_single (levels - 1)) (nested_opening (levels - 1)) name attrs text at m pieces full_start l
-            (subst Q same (λ rest f. never tt rest f)))
+        (spelled_never-content (Nested (levels - 1)) (nested_single (levels - 1)) (nested_opening (levels - 1)) name attrs text at m pieces full_start l
+        (subst Q same (λ rest f. never tt rest f)))
     element_stops-finish stops.NoMemory bytes same m mid new pieces l never = tt
 
     pub element_full : (bytes : List ℕ) → bytes ≡ name → (m rest : List ℕ) (pieces : List (Option Tree)) → Longest (Piece (Nested (levels - 1))) pieces at m → Finish bytes m rest →
@@ -221,7 +218,7 @@ module _ (levels : ℕ) (some : levels ≡ 0 → ⊥) (text : List ℕ) where
     element_full bytes same m rest pieces l f children e =
         let Q : List ℕ → Type 0 = λ x. Finish x m rest in
         nested_of levels some (Node name attrs (trees children)) text rest
-          (Full at m pieces full_start l.many (subst Q same f) (ap trees e))
+        (Full at m pieces full_start l.many (subst Q same f) (ap trees e))
 
 -- What was read of a piece.
 module _ (levels : ℕ) (text : List ℕ) where
@@ -256,3 +253,8 @@ passed_never text here next e f none reference comment rest (inr (inl p)) =
     let Q : List ℕ → Type 0 = λ x. Reference p.0 x rest in reference p.0 rest (subst Q (sym e) p.1)
 passed_never text here next e f none reference comment rest (inr (inr p)) =
     let Q : List ℕ → Type 0 = λ x. Comment x rest in comment rest (subst Q (sym (f ∙ e)) p)
+
+pub children_behind : (before out now : List Tree) (piece : Option Tree) (pieces : List (Option Tree)) → out ≡ before ++ children_among pieces → now ≡ out ++ children_among (piece ∷ []) →
+    now ≡ before ++ children_among (pieces ++ piece ∷ [])
+children_behind before out now piece pieces e f =
+    f ∙ ap (λ x. x ++ children_among (piece ∷ [])) e ∙ append_assoc before (children_among pieces) (children_among (piece ∷ [])) ∙ ap (λ x. before ++ x) (sym (children_joined pieces piece))

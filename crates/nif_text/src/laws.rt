@@ -1,0 +1,14 @@
+//! What holds of the grammar itself, whoever reads or writes by it.
+ghost use Rattle.std.specs.Prelude.{◌≡◌, ℕ, List};
+ghost use Rattle.nif_text.specs.Tree.{Tree};
+ghost use Rattle.nif_text.specs.Documents.{Written, IsAfter};
+
+/// No bytes are written of two trees.
+pub fn one_tree()
+    ensures { (one other : Tree) (text : List ℕ) → Written one text → Written other text → one ≡ other }
+{}
+
+/// The number of children before a fault is one number for each text.
+pub fn one_after()
+    ensures { (text : List ℕ) (one other : ℕ) → IsAfter text one → IsAfter text other → one ≡ other }
+{}
