@@ -81,7 +81,7 @@ fn before_root(text: &mut Cursor<'_>) -> bool
 }
 
 fn fault(stop: Stop, after: usize) -> TextFault
-    requires { after < 2 ^ 32 }
+    requires { after ≤ 2 ^ 23 }
     ensures { result ≡ fault_of stop after }
 {
     match stop {
