@@ -10,3 +10,4 @@ pub mod Starts
 pub mod Comments
 pub mod Nesting
 pub mod Documents
+pub mod Lengths

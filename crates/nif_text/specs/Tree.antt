@@ -38,3 +38,12 @@ abbrev mutual
   pub depths : Trees → ℕ
   depths End = 0
   depths (Then tree rest) = max (depth tree) (depths rest)
+
+-- how many elements a tree has, itself counted
+abbrev mutual
+  pub elements : Tree → ℕ
+  elements (Node name attrs children) = 1 + elements_in children
+
+  pub elements_in : Trees → ℕ
+  elements_in End = 0
+  elements_in (Then tree rest) = elements tree + elements_in rest

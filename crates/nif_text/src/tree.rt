@@ -4,6 +4,7 @@ ghost use Rattle.std.specs.Prelude.{◌≡◌, ℕ, ◌+◌, ◌-◌, ◌^◌, �
 use nif_base::{NoMemory, Word};
 use std::alloc::Global;
 use std::marker::Model;
+use thiserror::Error;
 
 /// The attributes of an element, in their order: pairs of a name and a value, at most 2^32 - 1.
 #[derive(Drop)]
@@ -60,11 +61,14 @@ impl Attrs {
 }
 
 /// Why the bytes of a text are not read.
-#[derive(Debug, Drop)]
+#[derive(Debug, Drop, Clone, Copy, PartialEq, Eq, Error)]
 pub enum TextFault {
-    /// No tree is written by the bytes. The root has at most `after` whole children before the fault, 0 where no root begins.
+    /// No tree is written by the bytes. `after` is the greatest number of whole children of the root that a
+    /// front of the bytes spells, 0 where no root begins.
+    #[error("the text is not written in the subset of XML, after {after} whole children of the root")]
     NotWritten { after: u32 },
     /// Memory ran out.
+    #[error("memory ran out")]
     NoMemory,
 }
 
