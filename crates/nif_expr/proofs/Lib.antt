@@ -1,0 +1,4 @@
+pub mod Looking
+pub mod Machine
+pub mod OneReading
+pub mod OneTree

@@ -1,0 +1,7 @@
+pub mod Value
+pub mod Bytes
+pub mod Digits
+pub mod Number
+pub mod VersionText
+pub mod Parts
+pub mod Grammar
