@@ -2,3 +2,9 @@ pub mod Looking
 pub mod Machine
 pub mod OneReading
 pub mod OneTree
+pub mod RunLemmas
+pub mod DigitLemmas
+pub mod NumberLemmas
+pub mod PathLemmas
+pub mod GoingLemmas
+pub mod FirstLemmas

@@ -1,5 +1,5 @@
--- Reading parts with a stack: each part is one step. What comes out is what the grammar reads.
-use Rattle.std.proofs.Common.{◌≡◌, ℕ, zero, suc, ◌<◌, ◌≤◌, cond, List, [], ◌∷◌, Option, Some, None, refl, sym, ap, ◌∙◌, subst, arith, nat_le, lit≤, lit<}
+-- What comes out where parts are read with a stack is what the grammar reads.
+use Rattle.std.proofs.Common.{◌≡◌, ℕ, zero, suc, ◌<◌, ◌≤◌, cond, List, [], ◌∷◌, Some, refl, sym, ap, ◌∙◌, subst, arith, nat_le, lit≤, lit<}
 use Rattle.std.proofs.Common.{inl, inr}
 use Rattle.std.proofs.lemmas.Bool.{le-leb}
 use Rattle.std.proofs.lemmas.Bool.Decides.{leb_tells}
@@ -7,58 +7,8 @@ use Rattle.nif_schema.specs.declared.exprs.Op.{Op}
 use Rattle.nif_schema.specs.declared.exprs.Op.TheVariants.{Mul, Div, Add, Sub, Shl, Shr, Lt, Le, Gt, Ge, Eq, Ne, BitAnd, BitOr, And, Or}
 use Rattle.nif_schema.specs.Expression.{Tree, Not, Two}
 use Rattle.nif_expr.specs.Parts.{Part, Operand, Negation, Opening, Closing, Operator}
+use Rattle.nif_expr.specs.Steps.{Frame, Negating, Grouping, Applying, reduced, State, Wants, Has, Fails, closed, step, ended, finish, run}
 use Rattle.nif_expr.specs.Grammar.{level, Reads, two, tighter, negation, operand, parentheses}
-
--- what waits for an operand: `!`, an open parenthesis, or an operator with its left operand
-pub data Frame : Type 0 where
-  Negating : Frame
-  Grouping : Frame
-  Applying : (op : Op) → (left : Tree) → Frame
-
--- what binds an operand at least as tightly as level k, from the top on, is put round it
-abbrev pub reduced : ℕ → List Frame → Tree → List Frame × Tree
-reduced k [] e = ([], e)
-reduced k (Negating ∷ stack) e = reduced k stack (Not e)
-reduced k (Grouping ∷ stack) e = (Grouping ∷ stack, e)
-reduced k (Applying op left ∷ stack) e = cond (nat_le k (level op)) (reduced k stack (Two op left e)) (Applying op left ∷ stack, e)
-
--- an operand is wanted, or one is there, or the parts are no expression
-pub data State : Type 0 where
-  Wants : (stack : List Frame) → State
-  Has : (stack : List Frame) → (operand : Tree) → State
-  Fails : State
-
-abbrev pub closed : List Frame → Tree → State
-closed [] e = Fails
-closed (Negating ∷ stack) e = Fails
-closed (Grouping ∷ stack) e = Has stack e
-closed (Applying op left ∷ stack) e = Fails
-
-abbrev pub step : State → Part → State
-step (Wants stack) (Operand e) = Has stack e
-step (Wants stack) Negation = Wants (Negating ∷ stack)
-step (Wants stack) Opening = Wants (Grouping ∷ stack)
-step (Wants stack) Closing = Fails
-step (Wants stack) (Operator op) = Fails
-step (Has stack e) (Operand of) = Fails
-step (Has stack e) Negation = Fails
-step (Has stack e) Opening = Fails
-step (Has stack e) Closing = closed (reduced 1 stack e).0 (reduced 1 stack e).1
-step (Has stack e) (Operator op) = Wants (Applying op (reduced (level op) stack e).1 ∷ (reduced (level op) stack e).0)
-step Fails part = Fails
-
-abbrev pub ended : List Frame → Tree → Option Tree
-ended [] e = Some e
-ended (frame ∷ stack) e = None
-
-abbrev pub finish : State → Option Tree
-finish (Wants stack) = None
-finish (Has stack e) = ended (reduced 1 stack e).0 (reduced 1 stack e).1
-finish Fails = None
-
-abbrev pub run : State → List Part → Option Tree
-run state [] = finish state
-run state (part ∷ parts) = run (step state part) parts
 
 -- levels
 

@@ -1,16 +1,15 @@
 -- No text has two lists of parts.
-use Rattle.std.proofs.Common.{◌≡◌, ℕ, Bool, true, false, cond, List, [], ◌∷◌, ◌++◌, Some, None, refl, sym, ap, ◌∙◌, subst, arith, inl, inr, length}
+use Rattle.std.proofs.Common.{zero, suc, Contains, get_or, ◌≡◌, ℕ, Bool, true, false, cond, List, [], ◌∷◌, ◌++◌, Some, None, refl, sym, ap, ◌∙◌, subst, arith, inl, inr, length}
 use Rattle.std.specs.Prelude.{◌&&◌, ◌||◌, codes, ◌==◌, not, nat_eq, take, drop}
 use lib.Pointwise.{pointwise}
-use Rattle.std.specs.List.{AllPass, starts_with}
+use Rattle.std.specs.List.{All, AllPass, starts_with}
 use Rattle.std.proofs.lemmas.Bool.{eqb-true}
 use Rattle.std.proofs.lemmas.List.Elements.{All-contains}
 use Rattle.std.proofs.lemmas.Bool.Decides.{nat_tests}
 use Rattle.nif_schema.specs.Expression.{Number}
 use Rattle.nif_expr.specs.Value.{Names}
-use Rattle.nif_expr.specs.Bytes.{is_blank, is_letter, is_digit, is_in_name, is_in_number, begins, front, after, trimmed}
-use Rattle.nif_expr.specs.Digits.{number_of}
-use Rattle.nif_expr.specs.VersionText.{version_of}
+use Rattle.nif_expr.specs.Bytes.{is_blank, is_letter, is_digit, is_in_name, is_in_number, is_backslash, begins, front, after, trimmed}
+use Rattle.nif_expr.specs.Digits.{number_of, is_hex_digit}
 use Rattle.nif_expr.specs.Number.{IsNumber, IsDecimal, IsHexadecimal, IsVersion}
 use Rattle.nif_expr.specs.Parts.{Part, Operand, signs, first_sign, Joined, last, more, operand_of, First, sign, number, path, Parts, none, blank, part}
 
@@ -39,7 +38,7 @@ pub signs-special : are_special signs ≡ true
 unfolding signs
 signs-special = refl
 
-both-true : (a b : Bool) → (a && b) ≡ true → (a ≡ true) × (b ≡ true)
+pub both-true : (a b : Bool) → (a && b) ≡ true → (a ≡ true) × (b ≡ true)
 both-true true b h = (refl, h)
 both-true false b h = cc
 
@@ -78,34 +77,34 @@ first_sign-none (entry ∷ others) special =
     ap (λ fits. cond fits (Some (entry.1, drop (length entry.0) [])) (first_sign others [])) (fits-none entry.0 parts.0)
     ∙ first_sign-none others parts.1
 
-plain-letter : (b : ℕ) → is_plain b ≡ false → is_letter b ≡ false
+pub plain-letter : (b : ℕ) → is_plain b ≡ false → is_letter b ≡ false
 plain-letter b h = grind (arith, nat_tests)
 
-plain-digit : (b : ℕ) → is_plain b ≡ false → is_digit b ≡ false
+pub plain-digit : (b : ℕ) → is_plain b ≡ false → is_digit b ≡ false
 plain-digit b h = grind (arith, nat_tests)
 
 plain-blank : (b : ℕ) → is_plain b ≡ false → is_blank b ≡ false
 plain-blank b h = grind (arith, nat_tests)
 
 -- what a sign can't begin with
-sign-apart : (class : ℕ → Bool) → ((b : ℕ) → is_plain b ≡ false → class b ≡ false) → (text rest : List ℕ) (p : Part)
+pub sign-apart : (class : ℕ → Bool) → ((b : ℕ) → is_plain b ≡ false → class b ≡ false) → (text rest : List ℕ) (p : Part)
     → first_sign signs text ≡ Some (p, rest) → begins class text ≡ false
 sign-apart class of_plain [] rest p found = refl
 sign-apart class of_plain (b ∷ text) rest p found = of_plain b (first_sign-plain signs b text rest p signs-special found)
 
-unlike : {P : Type 0} {x : Bool} → x ≡ true → x ≡ false → P
+pub unlike : {P : Type 0} {x : Bool} → x ≡ true → x ≡ false → P
 unlike holds fails = cc
 
 -- names
 
-Joined-letter : (text : List ℕ) (names : Names) (rest : List ℕ) → Joined text names rest → begins is_letter text ≡ true
+pub Joined-letter : (text : List ℕ) (names : Names) (rest : List ℕ) → Joined text names rest → begins is_letter text ≡ true
 Joined-letter text names rest (last letter stops) = letter
 Joined-letter text names rest (more letter goes tail) = letter
 
 pub Joined-one : (text : List ℕ) (a b : Names) (r s : List ℕ) → Joined text a r → Joined text b s → (a ≡ b) × (r ≡ s)
 Joined-one text _ _ _ _ (last l stops) (last m halts) = (refl, refl)
-Joined-one text _ _ _ _ (last l stops) (more m goes tail) = unlike (ap (begins (λ b. b == 92)) goes) stops
-Joined-one text _ _ _ _ (more l goes tail) (last m stops) = unlike (ap (begins (λ b. b == 92)) goes) stops
+Joined-one text _ _ _ _ (last l stops) (more m goes tail) = unlike (ap (begins is_backslash) goes) stops
+Joined-one text _ _ _ _ (more l goes tail) (last m stops) = unlike (ap (begins is_backslash) goes) stops
 Joined-one text _ _ r s (more {next = next} {names = names} l goes tail) (more {next = other} {names = names'} m went after_it) =
     let same : next ≡ other = cc in
     let tail' : Joined (after is_blank other) names r = subst (λ x. Joined (after is_blank x) names r) same tail in
@@ -120,8 +119,17 @@ decimal-hexadecimal text m n d h = unlike ((subst (λ x. AllPass is_digit x) h.s
 decimal-version : (text : List ℕ) (m n : ℕ) → IsDecimal text m → IsVersion text n → ⊥
 decimal-version text m n d v = unlike (All-contains (λ b. is_digit b ≡ true) text 46 d.digits v.dot) refl
 
+hex-dot : (digits : List ℕ) → AllPass is_hex_digit digits → All (λ b. (b == 46) ≡ false) (codes "0x" ++ digits)
+hex-dot digits hex zero d h = refl
+hex-dot digits hex (suc zero) d h = refl
+hex-dot digits hex (suc (suc k)) d h = let passes = hex k d (omega (arith, h)) in hex-apart (get_or digits k d) passes
+  where
+    hex-apart : (b : ℕ) → is_hex_digit b ≡ true → (b == 46) ≡ false
+    hex-apart b passes = grind (arith, nat_tests)
+
 hexadecimal-version : (text : List ℕ) (m n : ℕ) → IsHexadecimal text m → IsVersion text n → ⊥
-hexadecimal-version text m n h v = let e : version_of (codes "0x" ++ h.digits) ≡ Some n = subst (λ x. version_of x ≡ Some n) h.spelled v.value in cc
+hexadecimal-version text m n h v =
+    unlike refl (All-contains (λ b. (b == 46) ≡ false) (codes "0x" ++ h.digits) 46 (hex-dot h.digits h.hex) (subst (λ x. Contains x 46) h.spelled v.dot))
 
 hexadecimal-one : (text : List ℕ) (m n : ℕ) → IsHexadecimal text m → IsHexadecimal text n → m ≡ n
 hexadecimal-one text m n a b = let e : codes "0x" ++ a.digits ≡ codes "0x" ++ b.digits = sym a.spelled ∙ b.spelled in
@@ -140,7 +148,7 @@ IsNumber-one text m n (inr (inr a)) (inr (inr b)) = let e : Some m ≡ Some n = 
 
 -- parts
 
-letter-begins : (text : List ℕ) → begins is_letter text ≡ true → begins is_digit text ≡ true → ⊥
+pub letter-begins : (text : List ℕ) → begins is_letter text ≡ true → begins is_digit text ≡ true → ⊥
 letter-begins [] l d = cc
 letter-begins (b ∷ text) l d = unlike l (digit-letter b d)
 

@@ -15,6 +15,9 @@ is_letter b = is_within 65 90 b || is_within 97 122 b || b == 95
 abbrev pub is_digit : ℕ → Bool
 is_digit b = is_within 48 57 b
 
+abbrev pub is_backslash : ℕ → Bool
+is_backslash b = b == 92
+
 -- A name goes on with letters, `_`, digits, `?`, `:`, `'` and blanks.
 abbrev pub is_in_name : ℕ → Bool
 is_in_name b = is_letter b || is_digit b || b == 63 || b == 58 || b == 39 || is_blank b

@@ -2,6 +2,9 @@ pub mod Value
 pub mod Bytes
 pub mod Digits
 pub mod Number
-pub mod VersionText
 pub mod Parts
 pub mod Grammar
+pub mod Steps
+pub mod Kept
+pub mod Classes
+pub mod SignTable

@@ -3,7 +3,7 @@ use Rattle.std.specs.Prelude.{◌≡◌, ℕ, ◌^◌, ◌<◌, ◌≤◌, ◌�
 use Rattle.std.specs.List.{AllPass}
 use Rattle.nif_expr.specs.Bytes.{is_digit}
 use Rattle.nif_expr.specs.Digits.{is_hex_digit, number_of}
-use Rattle.nif_expr.specs.VersionText.{version_of}
+use Rattle.nif_base.specs.Version.{version_of}
 
 -- decimal digits of value below 2 ^ 64
 pub record IsDecimal (text : List ℕ) (n : ℕ) : Type 0 where

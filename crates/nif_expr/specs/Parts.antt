@@ -1,12 +1,12 @@
 -- The parts of a text: numbers, paths, `#ARG#`, operators and parentheses, with blanks before, between and
 -- after them.
-use Rattle.std.specs.Prelude.{◌≡◌, ℕ, false, if◌then◌else◌, ◌==◌, nat_eq, Option, Some, None, IsTrue, List, [], ◌∷◌, length, drop, codes}
+use Rattle.std.specs.Prelude.{◌≡◌, ℕ, false, if◌then◌else◌, nat_eq, Option, Some, None, IsTrue, List, [], ◌∷◌, length, drop, codes}
 use Rattle.std.specs.List.{starts_with}
 use Rattle.nif_schema.specs.declared.exprs.Op.{Op}
 use Rattle.nif_schema.specs.declared.exprs.Op.TheVariants.{Mul, Div, Add, Sub, Shl, Shr, Lt, Le, Gt, Ge, Eq, Ne, BitAnd, BitOr, And, Or}
 use Rattle.nif_schema.specs.Expression.{Tree, Number, Arg, Path}
 use Rattle.nif_expr.specs.Value.{Names, is_same}
-use Rattle.nif_expr.specs.Bytes.{is_blank, is_letter, is_digit, is_in_name, is_in_number, begins, front, after, trimmed}
+use Rattle.nif_expr.specs.Bytes.{is_blank, is_letter, is_digit, is_in_name, is_in_number, is_backslash, begins, front, after, trimmed}
 use Rattle.nif_expr.specs.Number.{IsNumber}
 
 -- a number, path or argument as its tree; `!`; `(`; `)`; a two-sided operator
@@ -50,7 +50,7 @@ first_sign (sign ∷ more) text =
 -- One or more names with `\` between them, and what follows the last. A name begins with a letter or `_`, goes
 -- on as far as it can, over blanks too, and loses its last blanks. Blanks may follow a `\`.
 pub data Joined : List ℕ → Names → List ℕ → Type 0 where
-  last : {text : List ℕ} → IsTrue (begins is_letter text) → begins (λ b. b == 92) (after is_in_name text) ≡ false
+  last : {text : List ℕ} → IsTrue (begins is_letter text) → begins is_backslash (after is_in_name text) ≡ false
       → Joined text (trimmed (front is_in_name text) ∷ []) (after is_in_name text)
   more : {text next rest : List ℕ} {names : Names} → IsTrue (begins is_letter text) → after is_in_name text ≡ 92 ∷ next
       → Joined (after is_blank next) names rest → Joined text (trimmed (front is_in_name text) ∷ names) rest
