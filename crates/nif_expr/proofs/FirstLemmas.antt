@@ -1,5 +1,5 @@
 -- What stands at the front of a text, by its first byte.
-use Rattle.std.proofs.Common.{◌≡◌, ℕ, true, false, List, None, Some, sym, ap, ◌∙◌, subst}
+use Rattle.std.proofs.Common.{◌≡◌, ℕ, true, false, List, Option, None, Some, sym, ap, ◌∙◌, subst}
 use Rattle.nif_schema.specs.Expression.{Tree, Number}
 use Rattle.nif_expr.specs.Value.{Names}
 use Rattle.nif_expr.specs.Bytes.{is_letter, is_digit, is_in_number, begins, front, after}
@@ -27,7 +27,7 @@ number_some text run rest n e is digit taken left spelled =
 
 pub sign_none : (text : List ℕ) → begins is_letter text ≡ false → begins is_digit text ≡ false → first_sign signs text ≡ None
     → (p : Part) (rest : List ℕ) → First text p rest → ⊥
-sign_none text letter digit other p rest (sign found) = let e : None ≡ Some (p, rest) = sym other ∙ found in cc
+sign_none text letter digit other p rest (sign found) = let e : ◌≡◌ {A = Option (Part × List ℕ)} None (Some (p, rest)) = sym other ∙ found in cc
 sign_none text letter digit other _ _ (number begin n) = unlike begin digit
 sign_none text letter digit other _ rest (path {names = names} joined) = unlike (Joined-letter text names rest joined) letter
 

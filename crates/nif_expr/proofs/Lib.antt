@@ -8,3 +8,4 @@ pub mod NumberLemmas
 pub mod PathLemmas
 pub mod GoingLemmas
 pub mod FirstLemmas
+pub mod Longest

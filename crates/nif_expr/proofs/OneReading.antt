@@ -1,5 +1,5 @@
 -- No text has two lists of parts.
-use Rattle.std.proofs.Common.{zero, suc, Contains, get_or, ◌≡◌, ℕ, Bool, true, false, cond, List, [], ◌∷◌, ◌++◌, Some, None, refl, sym, ap, ◌∙◌, subst, arith, inl, inr, length}
+use Rattle.std.proofs.Common.{zero, suc, Contains, get_or, ◌≡◌, ℕ, Bool, true, false, cond, List, [], ◌∷◌, ◌++◌, Option, Some, None, refl, sym, ap, ◌∙◌, subst, arith, inl, inr, length}
 use Rattle.std.specs.Prelude.{◌&&◌, ◌||◌, codes, ◌==◌, not, nat_eq, take, drop}
 use lib.Pointwise.{pointwise}
 use Rattle.std.specs.List.{All, AllPass, starts_with}
@@ -42,7 +42,7 @@ pub both-true : (a b : Bool) → (a && b) ≡ true → (a ≡ true) × (b ≡ tr
 both-true true b h = (refl, h)
 both-true false b h = cc
 
-not-plain : (a : Bool) → not a ≡ true → a ≡ false
+pub not-plain : (a : Bool) → not a ≡ true → a ≡ false
 not-plain true h = sym h
 not-plain false h = refl
 
@@ -163,7 +163,7 @@ First-nil _ _ (number d n) = cc
 First-nil rest _ (path {names = names} joined) = let e = Joined-letter [] names rest joined in cc
 
 pub First-one : (text : List ℕ) (p q : Part) (r s : List ℕ) → First text p r → First text q s → (p ≡ q) × (r ≡ s)
-First-one text p q r s (sign a) (sign b) = let e : Some (p, r) ≡ Some (q, s) = sym a ∙ b in
+First-one text p q r s (sign a) (sign b) = let e : ◌≡◌ {A = Option (Part × List ℕ)} (Some (p, r)) (Some (q, s)) = sym a ∙ b in
     let same : ◌≡◌ {A = Part × List ℕ} (p, r) (q, s) = cc in (ap (λ x. x.0) same, ap (λ x. x.1) same)
 First-one text p _ r _ (sign a) (number d n) = unlike d (sign-apart is_digit plain-digit text r p a)
 First-one text p _ r s (sign a) (path {names = names} joined) =

@@ -1,6 +1,6 @@
 -- The parts of a text: numbers, paths, `#ARG#`, operators and parentheses, with blanks before, between and
 -- after them.
-use Rattle.std.specs.Prelude.{◌≡◌, ℕ, false, if◌then◌else◌, nat_eq, Option, Some, None, IsTrue, List, [], ◌∷◌, length, drop, codes}
+use Rattle.std.specs.Prelude.{◌≡◌, ℕ, ◌+◌, ◌≤◌, true, false, if◌then◌else◌, nat_eq, Option, Some, None, IsTrue, List, [], ◌∷◌, length, drop, codes}
 use Rattle.std.specs.List.{starts_with}
 use Rattle.nif_schema.specs.declared.exprs.Op.{Op}
 use Rattle.nif_schema.specs.declared.exprs.Op.TheVariants.{Mul, Div, Add, Sub, Shl, Shr, Lt, Le, Gt, Ge, Eq, Ne, BitAnd, BitOr, And, Or}
@@ -71,3 +71,9 @@ pub data Parts : List ℕ → List Part → Type 0 where
   none : Parts [] []
   blank : {b : ℕ} {text : List ℕ} {parts : List Part} → IsTrue (is_blank b) → Parts text parts → Parts (b ∷ text) parts
   part : {text rest : List ℕ} {p : Part} {parts : List Part} → First text p rest → Parts rest parts → Parts text (p ∷ parts)
+
+-- none of these spellings that a text begins with is longer than what was taken of it
+abbrev pub AreNotLonger : List (List ℕ × Part) → List ℕ → List ℕ → Type 0
+AreNotLonger [] text rest = Unit {0}
+AreNotLonger (entry ∷ others) text rest =
+    (starts_with nat_eq text entry.0 ≡ true → length rest + length entry.0 ≤ length text) × AreNotLonger others text rest

@@ -42,7 +42,7 @@ impl Env {
     }
 
     /// The value of the last pair of a path, 0 where there is none.
-    pub fn look(&self, path: &Path) -> u64
+    pub(crate) fn look(&self, path: &Path) -> u64
         ensures { result ≡ look self.now path.now }
     {
         for (bound, value) in self.pairs.iter().rev() {

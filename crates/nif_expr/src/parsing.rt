@@ -23,7 +23,7 @@ pub enum ExprFault {
 }
 
 /// The most bytes that an expression may have.
-pub const MOST_BYTES: usize = 4096;
+const MOST_BYTES: usize = 4096;
 
 /// The expression of a text, whose bytes may be any. The work grows with the length of the text, and nothing is
 /// read by recursion.
