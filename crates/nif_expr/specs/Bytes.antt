@@ -22,7 +22,8 @@ is_backslash b = b == 92
 abbrev pub is_in_name : ℕ → Bool
 is_in_name b = is_letter b || is_digit b || b == 63 || b == 58 || b == 39 || is_blank b
 
--- A number goes on with letters, `_`, digits and dots. (What then is no number isn't two parts either.)
+-- A number goes on as far as letters, `_`, digits and dots go: `12a` and `1.2.3.4.5` are no numbers, and not two
+-- parts either.
 abbrev pub is_in_number : ℕ → Bool
 is_in_number b = is_letter b || is_digit b || b == 46
 

@@ -1,3 +1,4 @@
+//! What paths stand for.
 ghost use Rattle.std.specs.Prelude.{◌≡◌, [], ◌∷◌, ◌++◌, OnOk, OnErr};
 ghost use Rattle.nif_expr.specs.Value.{look, is_same};
 

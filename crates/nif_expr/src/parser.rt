@@ -92,8 +92,12 @@ fn top_binds(stack: &[Frame], least: u8) -> bool
 
 /// Takes the top of the stack where it binds an operand at least as tightly as this level.
 fn pop_bound(stack: &mut Vec<Frame>, least: u8) -> Option<Frame>
-    ensures stays { MatchOption result (frames stack.new.items ≡ frames stack.old.items) (λ frame. frames stack.old.items ≡ frame_of frame ∷ frames stack.new.items) }
-    ensures bound { MatchOption result (binds least (frames stack.old.items) ≡ false) (λ _. binds least (frames stack.old.items) ≡ true) }
+    ensures stays { MatchOption result
+        (frames stack.new.items ≡ frames stack.old.items)
+        (λ frame. frames stack.old.items ≡ frame_of frame ∷ frames stack.new.items) }
+    ensures bound { MatchOption result
+        (binds least (frames stack.old.items) ≡ false)
+        (λ _. binds least (frames stack.old.items) ≡ true) }
 {
     if top_binds(stack.as_slice(), least) {
         stack.pop()
@@ -120,7 +124,8 @@ fn reduce(
     least: u8,
     mut operand: Expr,
 ) -> Result<(Vec<Frame>, Expr), NoMemory>
-    ensures { IfOk result (λ r. (frames r.0.items, tree r.1) ≡ reduced least (frames stack.items) (tree operand)) }
+    ensures { IfOk result (λ r.
+        (frames r.0.items, tree r.1) ≡ reduced least (frames stack.items) (tree operand)) }
 {
     while let Some(frame) = pop_bound(&mut stack, least) {
         operand = wrapped(alloc, frame, operand)?;
@@ -130,7 +135,8 @@ fn reduce(
 
 /// An operand is wanted under this frame.
 fn waiting(mut stack: Vec<Frame>, frame: Frame) -> Result<Option<State>, NoMemory>
-    ensures { IfOk result (λ next. option_map state_of next ≡ Some (steps.Wants (frame_of frame ∷ frames stack.items))) }
+    ensures { IfOk result (λ next.
+        option_map state_of next ≡ Some (steps.Wants (frame_of frame ∷ frames stack.items))) }
 {
     match stack.push(frame) {
         Ok(()) => Ok(Some(State::Wants { stack })),
@@ -140,7 +146,9 @@ fn waiting(mut stack: Vec<Frame>, frame: Frame) -> Result<Option<State>, NoMemor
 
 /// The operand, which has just been closed by a parenthesis, where one is open.
 fn closed(mut stack: Vec<Frame>, operand: Expr) -> Option<State>
-    ensures { MatchOption result (steps.closed (frames stack.items) (tree operand) ≡ steps.Fails) (λ next. state_of next ≡ steps.closed (frames stack.items) (tree operand)) }
+    ensures { MatchOption result
+        (steps.closed (frames stack.items) (tree operand) ≡ steps.Fails)
+        (λ next. state_of next ≡ steps.closed (frames stack.items) (tree operand)) }
 {
     match stack.pop() {
         Some(Frame::Grouping) => Some(State::Has { stack, operand }),
@@ -150,7 +158,9 @@ fn closed(mut stack: Vec<Frame>, operand: Expr) -> Option<State>
 
 /// Reads one part more, or answers None where no expression begins with these parts.
 pub(crate) fn step(alloc: Global, state: State, token: Token) -> Result<Option<State>, NoMemory>
-    ensures { IfOk result (λ next. MatchOption next (steps.step (state_of state) (part_of token) ≡ steps.Fails) (λ s. state_of s ≡ steps.step (state_of state) (part_of token))) }
+    ensures { IfOk result (λ next. MatchOption next
+        (steps.step (state_of state) (part_of token) ≡ steps.Fails)
+        (λ s. state_of s ≡ steps.step (state_of state) (part_of token))) }
 {
     match state {
         State::Wants { stack } => match token {

@@ -1,3 +1,4 @@
+//! The expression of a text.
 ghost use Rattle.std.specs.Prelude.{◌≡◌, ◌<◌, ◌≤◌, ◌↔◌, length, IfOk, IsOk, IsErrOf};
 ghost use Rattle.nif_schema.specs.Expression.{tree, Tree};
 ghost use Rattle.nif_expr.specs.Grammar.{IsExpression};
@@ -31,7 +32,8 @@ pub fn parse(alloc: Global, text: &[u8]) -> Result<Expr, ExprFault>
     ensures parsed { IfOk result (λ e. IsExpression text.now (tree e)) }
     ensures short { IsOk result → length text.now ≤ 4096 }
     ensures too_long { IsErrOf result ExprFault.TooLong ↔ (4096 < length text.now) }
-    ensures not_an_expression { IsErrOf result ExprFault.NotAnExpression → (length text.now ≤ 4096) × ((t : Tree) → IsExpression text.now t → ⊥) }
+    ensures not_an_expression { IsErrOf result ExprFault.NotAnExpression →
+        (length text.now ≤ 4096) × ((t : Tree) → IsExpression text.now t → ⊥) }
 {
     if text.len() > MOST_BYTES {
         return Err(ExprFault::TooLong);

@@ -30,7 +30,9 @@ fn after_backslash(text: &[u8]) -> Option<&[u8]>
 /// The path at the front of a text, and what follows it. None where no name stands there or after a `\`.
 fn path(alloc: Global, text: &[u8]) -> Result<Option<(Path, &[u8])>, NoMemory>
     requires { length text.now ≤ 4096 }
-    ensures { IfOk result (λ found. MatchOption found ((names : Names) (rest : List ℕ) → Joined text.now names rest → ⊥) (λ r. Joined text.now r.0 r.1.now)) }
+    ensures { IfOk result (λ found. MatchOption found
+        ((names : Names) (rest : List ℕ) → Joined text.now names rest → ⊥)
+        (λ r. Joined text.now r.0 r.1.now)) }
 {
     if !Class::Letter.begins(text) {
         return Ok(None);
@@ -131,7 +133,9 @@ fn first(alloc: Global, text: &[u8]) -> Result<Option<(Token, &[u8])>, NoMemory>
 /// The tree of a text, None where it has none.
 pub(crate) fn tree_of(alloc: Global, text: &[u8]) -> Result<Option<Expr>, NoMemory>
     requires { length text.now ≤ 4096 }
-    ensures { IfOk result (λ found. MatchOption found ((t : Tree) → IsExpression text.now t → ⊥) (λ e. IsExpression text.now (tree e))) }
+    ensures { IfOk result (λ found. MatchOption found
+        ((t : Tree) → IsExpression text.now t → ⊥)
+        (λ e. IsExpression text.now (tree e))) }
 {
     let mut state = State::Wants {
         stack: Vec::new(alloc),

@@ -57,7 +57,9 @@ const SIGNS: [(&[u8], Sign); 36] = [
 
 /// The first of these spellings that a text begins with, and what follows it.
 fn find_sign<'a>(table: &[(&[u8], Sign)], text: &'a [u8]) -> Option<(Sign, &'a [u8])>
-    ensures { MatchOption result (first_sign (map entry_of table.now) text.now ≡ None) (λ r. first_sign (map entry_of table.now) text.now ≡ Some (sign_part r.0, r.1.now)) }
+    ensures { MatchOption result
+        (first_sign (map entry_of table.now) text.now ≡ None)
+        (λ r. first_sign (map entry_of table.now) text.now ≡ Some (sign_part r.0, r.1.now)) }
 {
     for (spelling, sign) in table {
         if text.starts_with(spelling) {
@@ -69,7 +71,9 @@ fn find_sign<'a>(table: &[(&[u8], Sign)], text: &'a [u8]) -> Option<(Sign, &'a [
 
 /// The sign that a text begins with, the longest that there is, and what follows it.
 pub(crate) fn first(text: &[u8]) -> Option<(Sign, &[u8])>
-    ensures { MatchOption result (first_sign signs text.now ≡ None) (λ r. first_sign signs text.now ≡ Some (sign_part r.0, r.1.now)) }
+    ensures { MatchOption result
+        (first_sign signs text.now ≡ None)
+        (λ r. first_sign signs text.now ≡ Some (sign_part r.0, r.1.now)) }
 {
     find_sign(&SIGNS, text)
 }

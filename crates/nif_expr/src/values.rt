@@ -1,3 +1,4 @@
+//! The value of an expression.
 ghost use Rattle.std.specs.Prelude.{◌≡◌};
 ghost use Rattle.nif_schema.specs.Expression.{tree};
 ghost use Rattle.nif_expr.specs.Value as spec;
