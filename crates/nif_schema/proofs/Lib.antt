@@ -1,0 +1,5 @@
+pub mod TableLemmas
+pub mod Pigeonhole
+pub mod WalkLemmas
+pub mod LineLemmas
+pub mod LineLaws

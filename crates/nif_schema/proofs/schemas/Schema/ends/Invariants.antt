@@ -1,0 +1,6 @@
+use Rattle.std.proofs.Common.{◌≡◌, ◌<◌, length, Some}
+use Rattle.nif_schema.specs.Schema.{ancestor}
+use Rattle.nif_schema.proofs.schemas.Schema.ends.Given as goal
+
+abbrev pub invariant-loop-steps : goal.invariant-loop-steps
+invariant-loop-steps l = (l.at < length l.self) × (ancestor l.self l._steps l.number ≡ Some l.at)

@@ -1,0 +1,35 @@
+-- What a schema and an iterator over a line keep.
+use Rattle.std.specs.Prelude.{ℕ, zero, suc, ◌≡◌, ◌<◌, List, [], ◌++◌, length, map, drop, All, Some}
+use Rattle.std.specs.Option.{option_map_or}
+use Rattle.nif_schema.specs.Declaration.{Field, Declaration, declaration}
+use Rattle.nif_schema.specs.Schema.{Schema, IsSchema, fields_of, ancestor}
+use Rattle.nif_schema.specs.declared.decls.Decl.{Decl}
+use Rattle.nif_schema.specs.declared.lines.Mark.{Mark}
+
+-- the declarations of a table
+abbrev pub declarations : {K : Type 0} → List (K × Decl) → Schema
+declarations entries = map (λ e. declaration e.1) entries
+
+-- a table has each declaration under its own name
+pub record IsTable {K : Type 0} (bytes : K → List ℕ) (entries : List (K × Decl)) : Type 0 where
+  pub keys : map (λ e. bytes e.0) entries ≡ map (λ e. e.1.name) entries
+  pub schema : IsSchema (declarations entries)
+
+-- the fields of the declarations that are fewer steps above `own`, the highest first
+abbrev pub below : Schema → ℕ → ℕ → List Field
+below schema own zero = []
+below schema own (suc steps) = option_map_or (fields_of schema) (ancestor schema steps own) [] ++ below schema own steps
+
+-- what is left of a line at a field of the declaration that is so many steps above `own`
+abbrev pub left_of : Schema → ℕ → ℕ → ℕ → ℕ → List Field
+left_of schema own above number place = drop place (fields_of schema number) ++ below schema own above
+
+-- each mark is a declaration on the walk
+abbrev pub AreMarks : Schema → ℕ → List Mark → Type 0
+AreMarks schema own marks = All (λ mark. ancestor schema mark.above own ≡ Some mark.number) marks
+
+-- an iterator is at a declaration on the walk
+pub record IsOnWalk (schema : Schema) (own above number : ℕ) (marks : List Mark) : Type 0 where
+  pub own_within : own < length schema
+  pub at : ancestor schema above own ≡ Some number
+  pub marked : AreMarks schema own marks
