@@ -1,16 +1,14 @@
 -- What an iterator over a line has left.
-use Rattle.std.proofs.Common.{◌≡◌, ◌≢◌, ℕ, zero, suc, ◌+◌, ◌-◌, ◌<◌, ◌≤◌, List, [], ◌∷◌, ◌++◌, length, map, drop, get_or, take, All, Contains, ◌⊎◌, inl, inr, Option, Some, None, is_some, IsSome, slice_get, refl, sym, ap, subst, ◌∙◌, add-one, arith}
+use Rattle.std.proofs.Common.{◌≡◌, ℕ, zero, suc, ◌+◌, ◌-◌, ◌<◌, ◌≤◌, List, [], ◌∷◌, ◌++◌, length, map, drop, get_or, Option, Some, None, is_some, IsSome, slice_get, refl, sym, ap, ◌∙◌, add-one, arith}
 use Rattle.std.specs.Option.{option_map, option_map_or}
 use Rattle.std.proofs.lemmas.List.{length-map}
-use Rattle.std.proofs.lemmas.List.Elements.{All-contains}
 use Rattle.std.proofs.lemmas.Option.{slice_get-map, slice_get_within, get_or_from_slice_get}
 use Rattle.std.proofs.Math.Seq.{drop-cons}
-use Rattle.nif_schema.specs.Declaration.{Field, Declaration, declaration, field}
+use Rattle.nif_schema.specs.Declaration.{Declaration, declaration, field}
 use Rattle.nif_schema.specs.Schema.{Schema, parent, ancestor, fields_of, line, Ends}
-use Rattle.nif_schema.specs.Kept.{below, left_of, AreMarks}
+use Rattle.nif_schema.specs.Kept.{below, left_of}
 use Rattle.nif_schema.specs.declared.decls.Decl.{Decl}
 use Rattle.nif_schema.specs.declared.fields.Field as kept_field
-use Rattle.nif_schema.specs.declared.lines.Mark.{Mark}
 use Rattle.nif_schema.proofs.WalkLemmas.{some_from_IsSome, ancestor-add, ancestor_before, line-below}
 
 drop_past : {A : Type 0} (xs : List A) (n : ℕ) → length xs ≤ n → drop n xs ≡ []

@@ -1,5 +1,5 @@
 -- The table of declarations by name.
-use Rattle.std.proofs.Common.{◌≡◌, ℕ, ◌+◌, ◌-◌, ◌<◌, ◌≤◌, ◌^◌, Bool, true, false, cond, not, ◌||◌, ltb, List, [], ◌∷◌, ◌++◌, length, map, All, Option, Some, None, is_some, position, slice_get, bytes_eq, refl, sym, ap, subst, ◌∙◌, arith}
+use Rattle.std.proofs.Common.{◌≡◌, ℕ, ◌+◌, ◌-◌, ◌<◌, ◌≤◌, ◌^◌, Bool, true, false, cond, not, ◌||◌, ltb, List, [], ◌∷◌, ◌++◌, length, map, Option, Some, None, is_some, position, slice_get, bytes_eq, refl, sym, ap, subst, ◌∙◌, arith}
 use Rattle.std.specs.List.{position_or_len, prefix_len, IsDistinct, list_any}
 use Rattle.std.proofs.lemmas.List.{map-append, length-map, length-append}
 use Rattle.std.proofs.lemmas.List.Elements.{All-push}
@@ -10,9 +10,9 @@ use Rattle.std.proofs.lemmas.Option.{slice_get-map}
 use Rattle.std.specs.Option.{option_map}
 use Rattle.std.specs.Map.{lookup}
 use Rattle.indexmap.proofs.MapLemmas.{some_index}
-use Rattle.nif_schema.specs.Declaration.{Name, Declaration, declaration}
+use Rattle.nif_schema.specs.Declaration.{Name, declaration}
 use Rattle.nif_schema.specs.Basic.{HasItsLeaf}
-use Rattle.nif_schema.specs.Schema.{Schema, find, IsSchema}
+use Rattle.nif_schema.specs.Schema.{find}
 use Rattle.nif_schema.specs.Kept.{declarations, IsTable}
 use Rattle.nif_schema.specs.declared.decls.Decl.{Decl}
 

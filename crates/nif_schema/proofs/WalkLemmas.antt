@@ -1,12 +1,12 @@
 -- The walk of parents.
-use Rattle.std.proofs.Common.{◌≡◌, ℕ, zero, suc, ◌+◌, ◌-◌, ◌<◌, ◌≤◌, Bool, true, false, if◌then◌else◌, List, [], ◌∷◌, ◌++◌, length, ◌⊎◌, inl, inr, Option, Some, None, IsSome, position, slice_get, bytes_eq, option_and_then, unwrap_or, refl, sym, ap, subst, ◌∙◌, append_assoc, arith}
+use Rattle.std.proofs.Common.{◌≡◌, ℕ, zero, suc, ◌+◌, ◌-◌, ◌<◌, ◌≤◌, Bool, true, false, if◌then◌else◌, List, [], ◌∷◌, ◌++◌, length, inl, inr, Option, Some, None, IsSome, slice_get, bytes_eq, option_and_then, unwrap_or, refl, sym, ap, ◌∙◌, append_assoc, arith}
 use Rattle.std.specs.Option.{option_map_or}
 use Rattle.std.proofs.lemmas.List.{append-nil}
 use Rattle.std.proofs.lemmas.List.Quantifiers.{position-Some}
 use Rattle.std.proofs.lemmas.Bool.{cases_lt}
-use Rattle.nif_schema.proofs.Pigeonhole.{Repeats, repeats}
+use Rattle.nif_schema.proofs.Pigeonhole.{repeats}
 use Rattle.nif_schema.specs.Declaration.{Name, Field, Declaration, inherited}
-use Rattle.nif_schema.specs.Schema.{Schema, find, find_block, has_block, parent, ancestor, fields_of, line_within, line, IsLine, Root, Child, Ends, IsA}
+use Rattle.nif_schema.specs.Schema.{Schema, find, find_block, has_block, parent, ancestor, fields_of, line_within, line, Ends, IsA}
 use Rattle.nif_schema.specs.Kept.{below}
 
 and_then-Some : {A B : Type 0} (f : A → Option B) (o : Option A) (y : B) → option_and_then f o ≡ Some y → (x : A) × (o ≡ Some x) × (f x ≡ Some y)

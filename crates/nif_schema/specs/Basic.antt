@@ -1,12 +1,11 @@
 -- The basics: how a basic is spelled goes by its name, whatever else its declaration says. One whose name isn't
 -- listed is an unsigned number of 1, 2, 4 or 8 bytes, or it can't be read.
-use Rattle.std.specs.Prelude.{ℕ, ◌≡◌, ◌⊎◌, Bool, true, false, List, [], ◌∷◌, codes, bytes_eq, Some, None, find, MatchOption}
+use Rattle.std.specs.Prelude.{ℕ, ◌≡◌, true, false, List, [], ◌∷◌, codes, bytes_eq, find, MatchOption}
 use Rattle.std.specs.declared.option.Option.{Option}
 use Rattle.std.specs.Option.{option_map}
 use Rattle.nif_schema.specs.Declaration.{Name, Declaration}
 use Rattle.nif_schema.specs.declared.decls.Leaf.{Leaf}
 use Rattle.nif_schema.specs.declared.decls.Leaf.TheVariants as leaf
-use Rattle.nif_schema.specs.declared.decls.What.{What}
 use Rattle.nif_schema.specs.declared.decls.What.TheVariants.{Basic, Stored, Struct, Block}
 
 abbrev pub unsigned : ℕ → Leaf

@@ -4,7 +4,7 @@ use Rattle.std.specs.declared.option.Option.{Option}
 use Rattle.std.specs.Option.{option_map}
 use Rattle.nif_schema.specs.Expression.{Tree, tree}
 use Rattle.nif_schema.specs.declared.decls.What.{What}
-use Rattle.nif_schema.specs.declared.decls.What.TheVariants.{Basic, Stored, Struct, Block}
+use Rattle.nif_schema.specs.declared.decls.What.TheVariants.{Block}
 use Rattle.nif_schema.specs.declared.decls.Decl.{Decl}
 use Rattle.nif_schema.specs.declared.fields.Bound.{Bound}
 use Rattle.nif_schema.specs.declared.fields.Exact.{Exact}

@@ -1,7 +1,7 @@
 -- What a schema and an iterator over a line keep.
 use Rattle.std.specs.Prelude.{ℕ, zero, suc, ◌≡◌, ◌<◌, List, [], ◌++◌, length, map, drop, All, Some}
 use Rattle.std.specs.Option.{option_map_or}
-use Rattle.nif_schema.specs.Declaration.{Field, Declaration, declaration}
+use Rattle.nif_schema.specs.Declaration.{Field, declaration}
 use Rattle.nif_schema.specs.Schema.{Schema, IsSchema, fields_of, ancestor}
 use Rattle.nif_schema.specs.declared.decls.Decl.{Decl}
 use Rattle.nif_schema.specs.declared.lines.Mark.{Mark}

@@ -1,4 +1,4 @@
-use Rattle.std.proofs.Common.{◌≡◌, ℕ, ◌≤◌, ◌-◌, ◌+◌, ◌/◌, arith, subst, sym, Some}
+use Rattle.std.proofs.Common.{◌≡◌, ◌≤◌, ◌-◌, ◌+◌, ◌/◌, arith, subst, sym, Some}
 use Rattle.std.proofs.lemmas.List.Elements.{All-push}
 use Rattle.nif_schema.specs.Schema.{ancestor}
 use Rattle.nif_schema.specs.Kept.{AreMarks}

@@ -1,6 +1,6 @@
-use Rattle.std.proofs.Common.{◌≡◌, ◌-◌, ◌+◌, sym, ◌∙◌, length, ap, None, arith}
+use Rattle.std.proofs.Common.{◌≡◌, sym, ◌∙◌, length, ap, None, arith}
 use Rattle.nif_schema.specs.Schema.{ancestor}
-use Rattle.nif_schema.proofs.WalkLemmas.{ended, ancestor_past}
+use Rattle.nif_schema.proofs.WalkLemmas.{ended}
 use Rattle.nif_schema.proofs.LineLemmas.{left_of-root}
 use Rattle.nif_schema.proofs.lines.Line.new.Goals as goal
 

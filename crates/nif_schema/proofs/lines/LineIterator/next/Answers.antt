@@ -1,4 +1,4 @@
-use Rattle.std.proofs.Common.{◌≡◌, ◌+◌, ◌-◌, ◌∷◌, ◌∙◌, sym, ap, arith}
+use Rattle.std.proofs.Common.{◌+◌, ◌∷◌, ◌∙◌, sym, ap, arith}
 use Rattle.nif_schema.specs.Declaration.{field}
 use Rattle.nif_schema.specs.Kept.{left_of}
 use Rattle.nif_schema.proofs.WalkLemmas.{ancestor-within}

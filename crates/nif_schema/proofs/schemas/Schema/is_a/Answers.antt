@@ -1,6 +1,6 @@
 use Rattle.std.proofs.Common.{◌≡◌, ℕ, ◌≤◌, ◌<◌, length, Some, sym, ap, ◌∙◌, ⊎_elim, arith}
 use Rattle.std.proofs.lemmas.Bool.{cases_lt}
-use Rattle.nif_schema.specs.Schema.{ancestor, IsA}
+use Rattle.nif_schema.specs.Schema.{ancestor}
 use Rattle.nif_schema.proofs.WalkLemmas.{no_ancestor, no_ancestor_past, ancestor_end}
 use Rattle.nif_schema.proofs.schemas.Schema.is_a.Goals as goal
 

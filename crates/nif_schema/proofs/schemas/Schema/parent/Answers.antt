@@ -1,4 +1,4 @@
-use Rattle.std.proofs.Common.{◌≡◌, ℕ, List, Option, sym, ap, ◌∙◌, option_and_then, option_copied}
+use Rattle.std.proofs.Common.{sym, ap, ◌∙◌, option_and_then}
 use Rattle.nif_schema.specs.Declaration.{declaration}
 use Rattle.nif_schema.specs.Schema.{find_block}
 use Rattle.nif_schema.proofs.WalkLemmas.{parent-at}
