@@ -1,0 +1,13 @@
+pub mod Replacing
+pub mod Groups
+pub mod Trees
+pub mod Zips
+pub mod Steps
+pub mod Found
+pub mod Loops
+pub mod Outcomes
+pub mod Decimals
+pub mod Existence
+pub mod Faults
+pub mod LeafLemmas
+pub mod Walk
