@@ -1,6 +1,7 @@
 //! Plain files, read and written.
 ghost use Rattle.std.specs.Prelude.{◌≡◌, ◌≢◌, ℕ, ◌+◌, ◌^◌, ◌<◌, ◌≤◌, ◌⊎◌, List, [], ◌∷◌, ◌++◌, length, OnOk, OnErr, IfOk, IfSome, MatchResult, Option, Ok, Err, Some, None, IsTrue, take};
 ghost use Rattle.nif_base.specs.Outside.{HasCause};
+ghost use Rattle.nif_base.specs.Reading.{TakesAtMost};
 ghost use Rattle.std.specs.List.{flat_map};
 ghost use Rattle.nif_stream.specs.Putting.{HasTaken, IsSound, Puts, Fails};
 ghost use Rattle.nif_file.specs.First.{Decodes, IsFirst, ReadCause, text_of, word, block, body};
@@ -193,6 +194,7 @@ fn parse_within(alloc: Global, bytes: &[u8]) -> Result<FirstFile, FirstFault>
 pub fn decode_first<S: Source>(alloc: Global, source: &mut S) -> Result<FirstFile, FirstFault>
     ensures decodes { IfSome (S.left source.old) (λ bytes. Decodes bytes result) }
     ensures value { IfOk result (λ f. (bytes : List ℕ) × IsFirst f bytes) }
+    ensures taken { TakesAtMost (2 ^ 26 + 1) (S.left source.old) (S.left source.new) }
     ensures cause { ReadCause (S.read_faults source.old) (S.read_faults source.new) result }
     ensures still { S.still source.old source.new }
 {
