@@ -4,3 +4,7 @@ pub mod Basic
 pub mod Schema
 pub mod Codes
 pub mod Kept
+pub mod Uses
+pub mod Paths
+pub mod Reasons
+pub mod Roles
