@@ -1,0 +1,7 @@
+//! Which structs are generic, and which declarations lead to some of them by a walk of uses. It stands on
+//! `nif_schema`, and promises that both are exactly as defined there, in time linear in declarations and fields.
+#![tactic(auto)]
+
+mod templates;
+
+pub use templates::{generic_structs, is_own_template};
