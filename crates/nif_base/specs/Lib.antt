@@ -10,3 +10,7 @@ pub mod MemFiles
 pub mod MemParts
 pub mod MemShelf
 pub mod Version
+pub mod Node
+pub mod NodeCodes
+pub mod File
+pub mod Graph
