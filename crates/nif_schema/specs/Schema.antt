@@ -1,6 +1,6 @@
 -- A schema is a list of declarations with different names. The number of a declaration is its place in the list,
 -- counted from 0.
-use Rattle.std.specs.Prelude.{ℕ, zero, suc, ◌≡◌, ◌^◌, ◌<◌, Bool, false, List, [], ◌++◌, length, map, All, Some, None, position, slice_get, bytes_eq, option_and_then, if◌then◌else◌}
+use Rattle.std.specs.Prelude.{ℕ, zero, suc, ◌≡◌, ◌^◌, ◌<◌, Bool, false, ◌||◌, nat_eq, List, [], ◌++◌, length, map, All, Some, None, position, slice_get, bytes_eq, option_and_then, if◌then◌else◌}
 use Rattle.std.specs.declared.option.Option.{Option}
 use Rattle.std.specs.Option.{option_map_or}
 use Rattle.std.specs.List.{IsDistinct}
@@ -42,6 +42,14 @@ Ends schema number = (steps : ℕ) × (ancestor schema steps number ≡ None)
 -- `of` is the declaration itself or an ancestor of it
 abbrev pub IsA : Schema → ℕ → ℕ → Type 0
 IsA schema number of = (steps : ℕ) × (ancestor schema steps number ≡ Some of)
+
+-- The same as a function, over at most so many steps. An ancestor is fewer steps away than there are declarations.
+abbrev pub is_a_within : ℕ → Schema → ℕ → ℕ → Bool
+is_a_within zero schema number of = nat_eq number of
+is_a_within (suc most) schema number of = nat_eq number of || option_map_or (λ above. is_a_within most schema above of) (parent schema number) false
+
+abbrev pub is_a : Schema → ℕ → ℕ → Bool
+is_a schema number of = is_a_within (length schema) schema number of
 
 -- The line of fields of a declaration: the line of its parent, if it has one, and then its own fields.
 pub data IsLine (schema : Schema) : ℕ → List Field → Type 0 where
