@@ -1,0 +1,12 @@
+pub mod Context
+pub mod Earlier
+pub mod PathValue
+pub mod Present
+pub mod Kind
+pub mod Form
+pub mod Leaf
+pub mod Fault
+pub mod Members
+pub mod Shape
+pub mod LeafFault
+pub mod Fails

@@ -1,0 +1,1 @@
+//! Laws of values, over the definitions alone.
