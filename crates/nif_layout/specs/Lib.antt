@@ -10,3 +10,4 @@ pub mod Members
 pub mod Shape
 pub mod LeafFault
 pub mod Fails
+pub mod Laws

@@ -1,0 +1,9 @@
+pub mod Bytes
+pub mod Cancel
+pub mod Passing
+pub mod Exclusive
+pub mod Leaves
+pub mod Exclusion
+pub mod Decide
+pub mod DecideLeaves
+pub mod DecideShapes
