@@ -7,3 +7,6 @@ pub mod Exclusion
 pub mod Decide
 pub mod DecideLeaves
 pub mod DecideShapes
+pub mod OpenTypes
+pub mod OpenKnown
+pub mod Theorems

@@ -1,0 +1,5 @@
+use Rattle.nif_layout.proofs.Theorems.{one_of_line}
+use Rattle.nif_layout.proofs.laws.one_line.Goals as goal
+
+pub returns : goal.returns
+returns g c = one_of_line

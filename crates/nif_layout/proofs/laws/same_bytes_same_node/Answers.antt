@@ -1,0 +1,5 @@
+use Rattle.nif_layout.proofs.Theorems.{one_node}
+use Rattle.nif_layout.proofs.laws.same_bytes_same_node.Goals as goal
+
+pub returns : goal.returns
+returns c = one_node

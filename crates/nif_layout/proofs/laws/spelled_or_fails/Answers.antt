@@ -1,0 +1,5 @@
+use Rattle.nif_layout.proofs.Theorems.{type_or_fails}
+use Rattle.nif_layout.proofs.laws.spelled_or_fails.Goals as goal
+
+pub returns : goal.returns
+returns c = type_or_fails
