@@ -10,3 +10,4 @@ pub mod DecideShapes
 pub mod OpenTypes
 pub mod OpenKnown
 pub mod Theorems
+pub mod Examples
