@@ -1,12 +1,12 @@
 -- The walk of parents.
-use Rattle.std.proofs.Common.{◌≡◌, ℕ, zero, suc, ◌+◌, ◌-◌, ◌<◌, ◌≤◌, Bool, true, false, if◌then◌else◌, List, [], ◌∷◌, ◌++◌, length, inl, inr, Option, Some, None, IsSome, slice_get, bytes_eq, option_and_then, unwrap_or, refl, sym, ap, ◌∙◌, append_assoc, arith}
+use Rattle.std.proofs.Common.{◌≡◌, ℕ, zero, suc, ◌+◌, ◌-◌, ◌<◌, ◌≤◌, Bool, true, false, ◌||◌, nat_eq, true≢false, subst, eqb-true, if◌then◌else◌, List, [], ◌∷◌, ◌++◌, length, inl, inr, Option, Some, None, IsSome, slice_get, bytes_eq, option_and_then, unwrap_or, refl, sym, ap, ◌∙◌, append_assoc, arith}
 use Rattle.std.specs.Option.{option_map_or}
 use Rattle.std.proofs.lemmas.List.{append-nil}
 use Rattle.std.proofs.lemmas.List.Quantifiers.{position-Some}
 use Rattle.std.proofs.lemmas.Bool.{cases_lt}
 use Rattle.nif_schema.proofs.Pigeonhole.{repeats}
 use Rattle.nif_schema.specs.Declaration.{Name, Field, Declaration, inherited}
-use Rattle.nif_schema.specs.Schema.{Schema, find, find_block, has_block, parent, ancestor, fields_of, line_within, line, Ends, IsA}
+use Rattle.nif_schema.specs.Schema.{Schema, find, find_block, has_block, parent, is_a, is_a_within, ancestor, fields_of, line_within, line, Ends, IsA}
 use Rattle.nif_schema.specs.Kept.{below}
 
 and_then-Some : {A B : Type 0} (f : A → Option B) (o : Option A) (y : B) → option_and_then f o ≡ Some y → (x : A) × (o ≡ Some x) × (f x ≡ Some y)
@@ -16,6 +16,17 @@ and_then-Some f (Some x) y e = (x, refl, e)
 find-within : (S : Schema) (name : Name) (n : ℕ) → find S name ≡ Some n → n < length S
 find-within [] name n e = absurd (cc)
 find-within (d ∷ ds) name n e = (position-Some (λ x. bytes_eq name x.name) (d ∷ ds) n d e).0
+
+eqb-refl_by : (t u : ℕ) → t ≡ u → nat_eq t u ≡ true
+eqb-refl_by t u e = grind (arith, e)
+
+or_left : (a b : Bool) → a ≡ true → (a || b) ≡ true
+or_left true b e = refl
+or_left false b e = absurd (true≢false (sym e))
+
+or_right : (a b : Bool) → b ≡ true → (a || b) ≡ true
+or_right true b e = refl
+or_right false b e = e
 
 pub some_from_IsSome : {A : Type 0} (o : Option A) → IsSome o → (x : A) × (o ≡ Some x)
 some_from_IsSome None e = absurd (cc)
@@ -134,6 +145,51 @@ module _ (S : Schema) where
       ap (λ k. ancestor S k t) z ∙ ap (option_and_then (parent S)) e ∙ end
 
   -- ---- what an ancestor is
+
+  -- a walk of fewer steps, as a function
+  is_a-near : (most t u k : ℕ) → k ≤ most → ancestor S k t ≡ Some u → is_a_within most S t u ≡ true
+  is_a-near zero t u k le e =
+      let z : k ≡ zero = omega arith in
+      let here : ancestor S zero t ≡ Some u = rw z at e in
+      let same : t ≡ u = cc in
+      eqb-refl_by t u same
+  is_a-near (suc most) t u zero le e = let same : t ≡ u = cc in or_left (nat_eq t u) _ (eqb-refl_by t u same)
+  is_a-near (suc most) t u (suc k) le e = by (parent S t) refl (λ p from. is_a-near most p u k (omega (arith, le)) from)
+    where
+      by : (o : Option ℕ) → parent S t ≡ o → ((p : ℕ) → ancestor S k p ≡ Some u → is_a_within most S p u ≡ true) → is_a_within (suc most) S t u ≡ true
+      by None ep ih =
+          let past : ancestor S (k + 1) t ≡ None = ancestor_past k 1 t ep in
+          let z : k + 1 ≡ suc k = omega arith in
+          let none : ancestor S (suc k) t ≡ None = rw z at past in absurd (cc)
+      by (Some p) ep ih =
+          let P : Option ℕ → Type 0 = λ o. (nat_eq t u || option_map_or (λ above. is_a_within most S above u) o false) ≡ true in
+          let Q : P (Some p) = or_right (nat_eq t u) _ (ih p (sym (ancestor-from_parent k t p ep) ∙ e)) in
+          subst P (sym ep) Q
+
+  is_a-far : (most t u : ℕ) → is_a_within most S t u ≡ true → IsA S t u
+  is_a-far zero t u e = (zero, ap (λ n. Some n) (eqb-true t u e))
+  is_a-far (suc most) t u e = by (nat_eq t u) (parent S t) refl refl e (λ p q. is_a-far most p u q)
+    where
+      by : (b : Bool) (o : Option ℕ) → nat_eq t u ≡ b → parent S t ≡ o → (b || option_map_or (λ above. is_a_within most S above u) o false) ≡ true
+          → ((p : ℕ) → is_a_within most S p u ≡ true → IsA S p u) → IsA S t u
+      by true o eb eo q ih = (zero, ap (λ n. Some n) (eqb-true t u eb))
+      by false None eb eo q ih = absurd (true≢false (sym q))
+      by false (Some p) eb eo q ih = let r = ih p q in (suc r.0, ancestor-from_parent r.0 t p eo ∙ r.1)
+
+  pub is_a-decides : (t u : ℕ) → t < length S → (is_a S t u ≡ true → IsA S t u) × (IsA S t u → is_a S t u ≡ true)
+  is_a-decides t u w =
+      (is_a-far (length S) t u, λ is. let m = near t w is.0 u is.1 in is_a-near (length S) t u m.0 (omega (arith, m.1)) m.2)
+
+  -- an answer that says whether there is such a walk
+  pub is_a-answer : (r : Bool) (t u : ℕ) → t < length S → (r ≡ true → IsA S t u) → (IsA S t u → r ≡ true) → r ≡ is_a S t u
+  is_a-answer r t u w to from =
+      let d = is_a-decides t u w in
+      by r (is_a S t u) (λ e. d.1 (to e)) (λ e. from (d.0 e))
+    where
+      by : (r s : Bool) → (r ≡ true → s ≡ true) → (s ≡ true → r ≡ true) → r ≡ s
+      by true s f g = sym (f refl)
+      by false true f g = g refl
+      by false false f g = refl
 
   -- no ancestor but those fewer steps away than there are declarations
   pub no_ancestor : (t u : ℕ) → t < length S → ((k : ℕ) → k < length S → ancestor S k t ≡ Some u → ⊥) → IsA S t u → ⊥

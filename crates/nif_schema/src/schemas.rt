@@ -2,7 +2,7 @@
 ghost use Rattle.std.specs.Prelude.{◌≡◌, ℕ, ◌+◌, ◌-◌, ◌^◌, ◌<◌, ◌↔◌, [], ◌∷◌, ◌++◌, length, slice_get, Some, None, IfSome, IsSome, IfOk, OnErr, OnOk, IsTrue, MatchBool};
 ghost use Rattle.nif_schema.specs.Declaration.{declaration};
 ghost use Rattle.nif_schema.specs.Basic.{HasItsLeaf};
-ghost use Rattle.nif_schema.specs.Schema.{find, find_block, parent, line, IsA, IsLine, Ends, IsSchema};
+ghost use Rattle.nif_schema.specs.Schema.{find, find_block, parent, is_a, line, IsA, IsLine, Ends, IsSchema};
 
 use crate::decls::Decl;
 use crate::lines::Line;
@@ -148,7 +148,8 @@ impl Schema {
     pub fn is_a(&self, number: u32, of: u32) -> bool
         requires number { number < length self.now }
         requires of { of < length self.now }
-        ensures { IsTrue result ↔ IsA self.now number of }
+        ensures walk { IsTrue result ↔ IsA self.now number of }
+        ensures value { result ≡ is_a self.now number of }
     {
         let mut at = number;
         for _steps in 0..self.count() {
