@@ -11,3 +11,4 @@ pub mod OpenTypes
 pub mod OpenKnown
 pub mod Theorems
 pub mod Examples
+pub mod DefinedValues

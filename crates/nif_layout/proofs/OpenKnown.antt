@@ -57,7 +57,7 @@ parent_is_block S n p d e h = by d.what refl
         let q : option_and_then (find_block S) (inherited (Block (Some name) abstract)) ≡ Some p = subst (λ (w : What). option_and_then (find_block S) (inherited w) ≡ Some p) ew at in
         (subst (λ (w : What). is_struct w ≡ false) (sym ew) refl, there (slice_get S p) refl (named (find S name) q))
 
-uses_parent : (S : Schema) (n p : ℕ) → parent S n ≡ Some p → Contains (uses S n) p
+pub uses_parent : (S : Schema) (n p : ℕ) → parent S n ≡ Some p → Contains (uses S n) p
 unfolding uses
 uses_parent S n p e =
     let P : Option ℕ → Type 0 = λ x. Contains (option_to_list x ++ flat_map (uses_of_field S) (fields_of S n)) p in

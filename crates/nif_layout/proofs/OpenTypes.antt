@@ -53,12 +53,12 @@ each_any test (f ∷ fields) =
 
 -- ---- reasons
 
-no_first : (o : Option Closed) (rest : List (Option Closed)) → first_reason (o ∷ rest) ≡ None → (o ≡ None) × (first_reason rest ≡ None)
+pub no_first : (o : Option Closed) (rest : List (Option Closed)) → first_reason (o ∷ rest) ≡ None → (o ≡ None) × (first_reason rest ≡ None)
 no_first None rest e = (refl, e)
 no_first (Some reason) rest e = absurd (cc)
 
 -- where no reason applies, that at a place doesn't
-no_reason_at : (reasons : List (Option Closed)) (k : ℕ) (o : Option Closed) → first_reason reasons ≡ None → slice_get reasons k ≡ Some o → o ≡ None
+pub no_reason_at : (reasons : List (Option Closed)) (k : ℕ) (o : Option Closed) → first_reason reasons ≡ None → slice_get reasons k ≡ Some o → o ≡ None
 no_reason_at [] k o e at = absurd (cc)
 no_reason_at (r ∷ reasons) zero o e at = let same : r ≡ o = cc in sym same ∙ (no_first r reasons e).0
 no_reason_at (r ∷ reasons) (suc k) o e at = no_reason_at reasons k o (no_first r reasons e).1 at
@@ -86,6 +86,20 @@ or_cases false b e = inr e
 pub find_within : (S : Schema) (name : Name) (n : ℕ) → find S name ≡ Some n → n < length S
 find_within [] name n e = absurd (cc)
 find_within (d ∷ ds) name n e = (position-Some (λ (x : Declaration). bytes_eq name x.name) (d ∷ ds) n d e).0
+
+pub parent_within : (S : Schema) (n p : ℕ) → parent S n ≡ Some p → p < length S
+unfolding parent
+parent_within S n p e = by (option_and_then (λ (d : Declaration). inherited d.what) (slice_get S n)) e
+  where
+    block : (b : Bool) (m : ℕ) → (if b then Some m else None) ≡ Some p → m ≡ p
+    block true m e = cc
+    block false m e = absurd (cc)
+    found : (name : Name) (o : Option ℕ) → find S name ≡ o → option_and_then (λ number. if has_block S number then Some number else None) o ≡ Some p → p < length S
+    found name None eo e = absurd (cc)
+    found name (Some m) eo e = subst (λ (k : ℕ). k < length S) (block (has_block S m) m e) (find_within S name m eo)
+    by : (o : Option Name) → option_and_then (find_block S) o ≡ Some p → p < length S
+    by None e = absurd (cc)
+    by (Some name) e = found name (find S name) refl e
 
 named_cases : (S : Schema) (name : Name) (b : Bool) (n : ℕ) → is_own_template name ≡ b → (if b then None else find S name) ≡ Some n → (b ≡ false) × (find S name ≡ Some n)
 named_cases S name true n e h = absurd (cc)
@@ -125,6 +139,7 @@ FieldGood S in_struct f =
 
 -- The facts of one declaration, from its own reason.
 pub record OwnFacts (S : Schema) (n : ℕ) (d : Declaration) : Type 0 where
+  pub rooted : has_no_root S n ≡ false
   pub readable : is_unread S d.what ≡ false
   pub fields : fields_reason S (is_struct d.what) (line_above S n) d.fields ≡ None
 
@@ -142,6 +157,7 @@ own_facts S n d e o =
     let P : Option Declaration → Type 0 = λ x. option_and_then (λ d. first_reason (reasons d)) x ≡ None in
     let none : first_reason (reasons d) ≡ None = subst P e o in
     record {
+      rooted = no_reason closed.C3 (has_no_root S n) (no_reason_at (reasons d) 1 (reason_where closed.C3 (has_no_root S n)) none refl);
       readable = no_reason closed.C10 (is_unread S d.what) (no_reason_at (reasons d) 3 (reason_where closed.C10 (is_unread S d.what)) none refl);
       fields = no_reason_at (reasons d) 5 (fields_reason S (is_struct d.what) (line_above S n) d.fields) none refl
     }

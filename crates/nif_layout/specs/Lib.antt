@@ -11,3 +11,4 @@ pub mod Shape
 pub mod LeafFault
 pub mod Fails
 pub mod Laws
+pub mod Defined

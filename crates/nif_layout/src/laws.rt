@@ -8,6 +8,7 @@ ghost use Rattle.nif_layout.specs.Earlier.{Env};
 ghost use Rattle.nif_layout.specs.Form.{Form, form_of};
 ghost use Rattle.nif_layout.specs.Fault.{Fault};
 ghost use Rattle.nif_layout.specs.Members.{Check};
+ghost use Rattle.nif_layout.specs.Defined.{AllHaveValues};
 ghost use Rattle.nif_layout.specs.Laws.{Fits, AllFit, IsOpenType, HasTemplate, OneNode, NoProperPrefix, OneForm, OneLine, SpelledOrFails, FormSpelledOrFails, LineSpelledOrFails};
 
 /// Two values of a type that are spelled by the same bytes are one.
@@ -44,4 +45,10 @@ pub fn one_line<W>()
 /// At each place the members of the line of an open type are spelled, or they fail in exactly one way.
 pub fn line_spelled_or_fails<W>()
     ensures { (S : Schema) (at : Env → Context) (number : ℕ) (template : Option ℕ) (arg : ℕ) (by_fault : Fault → W) (check : Check W) → AllFit at → IsOpenType S number → HasTemplate S number template → LineSpelledOrFails S at template arg by_fault check (line S number) }
+{}
+
+/// In an open type each expression of each field of its line was read, and each path in it has a value, whatever was
+/// read of the fields before it.
+pub fn all_have_values()
+    ensures { (S : Schema) (number : ℕ) → IsOpenType S number → AllHaveValues S number }
 {}
