@@ -1,13 +1,13 @@
 -- Each expression of the line of an open type has a value.
-use Rattle.std.proofs.Common.{◌≡◌, ℕ, zero, suc, ◌+◌, ◌<◌, ◌⊎◌, inl, inr, Bool, true, false, ◌&&◌, ◌||◌, not, if◌then◌else◌, is_some, IsSome, Option, Some, None, List, [], ◌∷◌, ◌++◌, length, map, slice_get, slice_index_or, bytes_eq, option_and_then, refl, sym, ◌∙◌, ap, subst, true≢false, arith, append_assoc, append-nil}
+use Rattle.std.proofs.Common.{◌≡◌, ℕ, zero, suc, ◌+◌, ◌<◌, ◌⊎◌, inl, inr, Bool, true, false, ◌&&◌, ◌||◌, not, if◌then◌else◌, is_some, is_none, IsSome, Option, Some, None, List, [], ◌∷◌, ◌++◌, length, map, slice_get, slice_index_or, bytes_eq, option_and_then, refl, sym, ◌∙◌, ap, subst, true≢false, arith, append_assoc, append-nil}
 use Rattle.std.specs.Prelude.{Contains, filter, codes}
 use Rattle.std.specs.Option.{option_map_or}
-use Rattle.std.specs.List.{list_any}
+use Rattle.std.specs.List.{list_any, list_all}
 use Rattle.nif_schema.specs.Declaration.{Name, Formula, Read, Bad, Field, Declaration}
 use Rattle.nif_schema.specs.Expression.{Tree, Number, Arg, Path, Not, Two}
 use Rattle.nif_schema.specs.Schema.{Schema, parent, ancestor, fields_of, line, line_within}
 use Rattle.nif_schema.specs.Uses.{is_struct, Here}
-use Rattle.nif_schema.specs.Paths.{paths_of, fields_named, is_header_path, rest_reason, path_reason, Meaning, OfField}
+use Rattle.nif_schema.specs.Paths.{paths_of, has_numbers, is_number, is_number_array, fields_named, is_header_path, rest_reason, path_reason, Meaning, OfField}
 use Rattle.nif_schema.specs.Reasons.{first_reason, reason_where, kind_reason, template_reason, is_bad_bound, is_no_block, is_bad_exact, formula_reason, width_reason, width_where, bare_width_reason, field_reason, fields_reason, line_above, has_no_root, own_reason, IsOpen}
 use Rattle.nif_schema.specs.declared.faults.Closed.{Closed}
 use Rattle.nif_schema.specs.declared.faults.Closed.TheVariants as closed
@@ -15,8 +15,9 @@ use Rattle.nif_layout.specs.Context.{Context}
 use Rattle.nif_layout.specs.Earlier.{Earlier, Env, is_named, has_name, last_present}
 use Rattle.nif_layout.specs.PathValue.{header_value, path_value, follow, found}
 use Rattle.nif_layout.specs.Laws.{IsOpenType}
-use Rattle.nif_layout.specs.Defined.{fields_before, EachPlaced, expressions, HasValue, HasValues, AllHaveValues}
-use Rattle.nif_layout.proofs.OpenTypes.{no_first, no_reason_at, open_used, declared, OwnFacts, own_facts, find_within, parent_within}
+use Rattle.nif_layout.specs.Defined.{fields_before, EachPlaced, expressions, HasValue, HasValues, NamesNumbers, IsDefined, AllDefined}
+use Rattle.nif_layout.specs.Form.{is_array, array_name}
+use Rattle.nif_layout.proofs.OpenTypes.{or_left, or_right, or_cases, and_both, not_false, no_reason, no_first, no_reason_at, open_used, declared, OwnFacts, own_facts, find_within, parent_within}
 use Rattle.nif_layout.proofs.OpenKnown.{uses_parent}
 
 -- ---- one path
@@ -111,6 +112,20 @@ formula_has S earlier Bad e = absurd (cc)
 formula_has S earlier (Read of) e = read_value S earlier of e
 
 -- an earlier field of a name is one in an environment
+append_any : (p : Field → Bool) (xs : List Field) (f : Field) → (list_any p xs ≡ true) ⊎ (p f ≡ true) → list_any p (xs ++ f ∷ []) ≡ true
+append_any p [] f (inl e) = absurd (true≢false (sym e))
+append_any p [] f (inr e) = or_left (p f) false e
+append_any p (x ∷ xs) f (inl e) = by (or_cases (p x) (list_any p xs) e) (λ q. append_any p xs f (inl q))
+  where
+    by : (p x ≡ true) ⊎ (list_any p xs ≡ true) → (list_any p xs ≡ true → list_any p (xs ++ f ∷ []) ≡ true) → (p x || list_any p (xs ++ f ∷ [])) ≡ true
+    by (inl h) ih = or_left (p x) (list_any p (xs ++ f ∷ [])) h
+    by (inr h) ih = or_right (p x) (list_any p (xs ++ f ∷ [])) (ih h)
+append_any p (x ∷ xs) f (inr e) = or_right (p x) (list_any p (xs ++ f ∷ [])) (append_any p xs f (inr e))
+
+both_and : (a b : Bool) → a ≡ true → b ≡ true → (a && b) ≡ true
+both_and true b e h = h
+both_and false b e h = absurd (true≢false (sym e))
+
 any_append : (p : Field → Bool) (xs : List Field) (f : Field) → list_any p (xs ++ f ∷ []) ≡ true → (list_any p xs ≡ true) ⊎ (p f ≡ true)
 any_append p [] f e = by (p f) e
   where
@@ -164,25 +179,111 @@ width_has S earlier (Read (Path (name ∷ next ∷ more))) e = formula_has S ear
 width_has S earlier (Read (Not of)) e = formula_has S earlier (Read (Not of)) e
 width_has S earlier (Read (Two op left right)) e = formula_has S earlier (Read (Two op left right)) e
 
+-- ---- a width that names an array
+
+all_append : (p q : Field → Bool) (xs : List Field) (f : Field) → list_all p (filter q (xs ++ f ∷ [])) ≡ true
+    → (list_all p (filter q xs) ≡ true) × (q f ≡ true → p f ≡ true)
+all_append p q [] f e = (refl, λ h. by (q f) h e)
+  where
+    by : (b : Bool) → b ≡ true → list_all p (if b then f ∷ [] else []) ≡ true → p f ≡ true
+    by true h e = (and_both (p f) true e).0
+    by false h e = absurd (true≢false (sym h))
+all_append p q (x ∷ xs) f e = by (q x) e (λ h. all_append p q xs f h)
+  where
+    by : (b : Bool) → list_all p (if b then x ∷ filter q (xs ++ f ∷ []) else filter q (xs ++ f ∷ [])) ≡ true
+        → (list_all p (filter q (xs ++ f ∷ [])) ≡ true → (list_all p (filter q xs) ≡ true) × (q f ≡ true → p f ≡ true))
+        → (list_all p (if b then x ∷ filter q xs else filter q xs) ≡ true) × (q f ≡ true → p f ≡ true)
+    by true h ih =
+        let r = and_both (p x) (list_all p (filter q (xs ++ f ∷ []))) h in
+        let s = ih r.1 in
+        (both_and (p x) (list_all p (filter q xs)) r.0 s.0, s.1)
+    by false h ih = ih h
+
+some_none : {A : Type 0} (o : Option A) → is_some o ≡ true → is_none o ≡ true → ⊥
+some_none None a b = absurd (true≢false (sym a))
+some_none (Some x) a b = absurd (true≢false (sym b))
+
+-- a name of an array is not one of numbers alone
+no_numbers : (S : Schema) (name : Name) (E : Env) → is_array name E ≡ true → list_all (is_number S) (filter (λ (f : Field). bytes_eq name f.name) (fields_before E)) ≡ true → ⊥
+no_numbers S name [] a e = absurd (true≢false (sym a))
+no_numbers S name (earlier ∷ before) a e = by (is_named name earlier) refl a (no_numbers S name before)
+  where
+    r : (list_all (is_number S) (filter (λ (f : Field). bytes_eq name f.name) (fields_before before)) ≡ true) × (bytes_eq name earlier.field.name ≡ true → is_number S earlier.field ≡ true)
+    r = all_append (is_number S) (λ (f : Field). bytes_eq name f.name) (fields_before before) earlier.field e
+    by : (b : Bool) → is_named name earlier ≡ b → (if b then is_some earlier.field.length else is_array name before) ≡ true
+        → (is_array name before ≡ true → list_all (is_number S) (filter (λ (f : Field). bytes_eq name f.name) (fields_before before)) ≡ true → ⊥) → ⊥
+    by true eb h ih = some_none earlier.field.length h (and_both (is_none earlier.field.length) (has_numbers S earlier.field) (r.1 eb)).0
+    by false eb h ih = ih h r.0
+
+array_named : (name : Name) (E : Env) → is_array name E ≡ true → list_any (λ (f : Field). bytes_eq name f.name) (fields_before E) ≡ true
+array_named name [] a = absurd (true≢false (sym a))
+array_named name (earlier ∷ before) a = by (is_named name earlier) refl a (array_named name before)
+  where
+    by : (b : Bool) → is_named name earlier ≡ b → (if b then is_some earlier.field.length else is_array name before) ≡ true
+        → (is_array name before ≡ true → list_any (λ (f : Field). bytes_eq name f.name) (fields_before before) ≡ true)
+        → list_any (λ (f : Field). bytes_eq name f.name) (fields_before before ++ earlier.field ∷ []) ≡ true
+    by true eb h ih = append_any (λ (f : Field). bytes_eq name f.name) (fields_before before) earlier.field (inr eb)
+    by false eb h ih = append_any (λ (f : Field). bytes_eq name f.name) (fields_before before) earlier.field (inl (ih h))
+
+bare_array : (S : Schema) (E : Env) (name : Name) → width_reason S (fields_before E) (Some (Read (Path (name ∷ [])))) ≡ None → is_array name E ≡ true
+    → list_all (is_number_array S) (filter (λ (f : Field). bytes_eq name f.name) (fields_before E)) ≡ true
+bare_array S E name e a =
+    let fields = filter (λ (f : Field). bytes_eq name f.name) (fields_before E) in
+    let P : Bool → Type 0 = λ b. (if b then bare_width_reason S fields else formula_reason S (fields_before E) (Some (Read (Path (name ∷ []))))) ≡ None in
+    let none : bare_width_reason S fields ≡ None = subst P (array_named name E a) e in
+    by (or_cases (list_all (is_number S) fields) (list_all (is_number_array S) fields) (not_false _ (no_reason closed.C9 _ none)))
+  where
+    by : (list_all (is_number S) (filter (λ (f : Field). bytes_eq name f.name) (fields_before E)) ≡ true) ⊎ (list_all (is_number_array S) (filter (λ (f : Field). bytes_eq name f.name) (fields_before E)) ≡ true)
+        → list_all (is_number_array S) (filter (λ (f : Field). bytes_eq name f.name) (fields_before E)) ≡ true
+    by (inl n) = absurd (no_numbers S name E a n)
+    by (inr n) = n
+
+width_names : (S : Schema) (E : Env) (width : Formula) (name : Name) → width_reason S (fields_before E) (Some width) ≡ None → array_name E width ≡ Some name
+    → list_all (is_number_array S) (filter (λ (f : Field). bytes_eq name f.name) (fields_before E)) ≡ true
+width_names S E Bad name e a = absurd (cc)
+width_names S E (Read (Number n)) name e a = absurd (cc)
+width_names S E (Read Arg) name e a = absurd (cc)
+width_names S E (Read (Path [])) name e a = absurd (cc)
+width_names S E (Read (Path (first ∷ []))) name e a = by (is_array first E) refl a
+  where
+    by : (b : Bool) → is_array first E ≡ b → (if b then Some first else None) ≡ Some name → list_all (is_number_array S) (filter (λ (f : Field). bytes_eq name f.name) (fields_before E)) ≡ true
+    by true eb h =
+        let same : first ≡ name = cc in
+        subst (λ (n : Name). list_all (is_number_array S) (filter (λ (f : Field). bytes_eq n f.name) (fields_before E)) ≡ true) same (bare_array S E first e eb)
+    by false eb h = absurd (cc)
+width_names S E (Read (Path (first ∷ next ∷ more))) name e a = absurd (cc)
+width_names S E (Read (Not of)) name e a = absurd (cc)
+width_names S E (Read (Two op left right)) name e a = absurd (cc)
+
 -- ---- one field
 
-field_has : (S : Schema) (in_struct : Bool) (earlier : List Field) (f : Field) → field_reason S in_struct earlier f ≡ None → HasValues S earlier f
+field_widths : (S : Schema) (earlier : List Field) (f : Field) → width_reason S earlier (width_where f.length f.width) ≡ None → NamesNumbers S earlier f
+field_widths S earlier f e width is E same name a =
+    let e' : width_reason S earlier (Some width) ≡ None = subst (λ (w : Option Formula). width_reason S earlier w ≡ None) is e in
+    let e'' : width_reason S (fields_before E) (Some width) ≡ None = subst (λ (fields : List Field). width_reason S fields (Some width) ≡ None) (sym same) e' in
+    subst (λ (fields : List Field). list_all (is_number_array S) (filter (λ (g : Field). bytes_eq name g.name) fields) ≡ true) same (width_names S E width name e'' a)
+
+-- the reasons that a field may give, in their order
+abbrev reasons_of : Schema → Bool → List Field → Field → List (Option Closed)
+reasons_of S in_struct earlier f =
+    kind_reason S in_struct f
+    ∷ template_reason S in_struct f
+    ∷ reason_where closed.C11 (is_bad_bound f.since || is_bad_bound f.until)
+    ∷ reason_where closed.C12 (is_no_block S f.only || is_no_block S f.exclude)
+    ∷ reason_where closed.C4 (is_bad_exact f.user || is_bad_exact f.bs)
+    ∷ formula_reason S earlier f.vercond
+    ∷ formula_reason S earlier f.cond
+    ∷ formula_reason S earlier f.arg
+    ∷ formula_reason S earlier f.length
+    ∷ width_reason S earlier (width_where f.length f.width)
+    ∷ []
+
+field_values : (S : Schema) (in_struct : Bool) (earlier : List Field) (f : Field) → field_reason S in_struct earlier f ≡ None → HasValues S earlier f
 unfolding field_reason
-field_has S in_struct earlier f e formula c = by (contained_cases f.vercond (f.cond ∷ f.arg ∷ f.length ∷ width_where f.length f.width ∷ []) (Some formula) c)
+field_values S in_struct earlier f e formula c = by (contained_cases f.vercond (f.cond ∷ f.arg ∷ f.length ∷ width_where f.length f.width ∷ []) (Some formula) c)
   where
     reasons : List (Option Closed)
-    reasons =
-        kind_reason S in_struct f
-        ∷ template_reason S in_struct f
-        ∷ reason_where closed.C11 (is_bad_bound f.since || is_bad_bound f.until)
-        ∷ reason_where closed.C12 (is_no_block S f.only || is_no_block S f.exclude)
-        ∷ reason_where closed.C4 (is_bad_exact f.user || is_bad_exact f.bs)
-        ∷ formula_reason S earlier f.vercond
-        ∷ formula_reason S earlier f.cond
-        ∷ formula_reason S earlier f.arg
-        ∷ formula_reason S earlier f.length
-        ∷ width_reason S earlier (width_where f.length f.width)
-        ∷ []
+    reasons = reasons_of S in_struct earlier f
     one : (o : Option Formula) → formula_reason S earlier o ≡ None → o ≡ Some formula → HasValue S earlier formula
     one o h same = formula_has S earlier formula (subst (λ (o : Option Formula). formula_reason S earlier o ≡ None) same h)
     last : (o : Option Formula) → width_reason S earlier o ≡ None → o ≡ Some formula → HasValue S earlier formula
@@ -205,9 +306,19 @@ field_has S in_struct earlier f e formula c = by (contained_cases f.vercond (f.c
     by (inl same) = one f.vercond (no_reason_at reasons 5 (formula_reason S earlier f.vercond) e refl) same
     by (inr c) = by2 (contained_cases f.cond (f.arg ∷ f.length ∷ width_where f.length f.width ∷ []) (Some formula) c)
 
+last_reason : (S : Schema) (in_struct : Bool) (earlier : List Field) (f : Field) → field_reason S in_struct earlier f ≡ None → width_reason S earlier (width_where f.length f.width) ≡ None
+unfolding field_reason
+last_reason S in_struct earlier f e = no_reason_at (reasons_of S in_struct earlier f) 9 (width_reason S earlier (width_where f.length f.width)) e refl
+
+field_has : (S : Schema) (in_struct : Bool) (earlier : List Field) (f : Field) → field_reason S in_struct earlier f ≡ None → IsDefined S earlier f
+field_has S in_struct earlier f e = record {
+  values = field_values S in_struct earlier f e;
+  widths = field_widths S earlier f (last_reason S in_struct earlier f e)
+}
+
 -- ---- the fields of a line
 
-fields_placed : (S : Schema) (in_struct : Bool) (earlier fields : List Field) → fields_reason S in_struct earlier fields ≡ None → EachPlaced (HasValues S) earlier fields
+fields_placed : (S : Schema) (in_struct : Bool) (earlier fields : List Field) → fields_reason S in_struct earlier fields ≡ None → EachPlaced (IsDefined S) earlier fields
 fields_placed S in_struct earlier [] e = tt
 fields_placed S in_struct earlier (f ∷ fields) e =
     let r1 = no_first (field_reason S in_struct earlier f) _ e in
@@ -243,21 +354,21 @@ walk_ends : (S : Schema) (n : ℕ) → IsOpenType S n → ancestor S (length S) 
 unfolding has_no_root
 walk_ends S n o = let x = declared S n o.0 in none_of (ancestor S (length S) n) (own_facts S n x.0 x.1 (o.1 n (Here n))).rooted
 
-line_has : (S : Schema) (m n : ℕ) → IsOpenType S n → ancestor S m n ≡ None → EachPlaced (HasValues S) [] (line_within m S n)
+line_has : (S : Schema) (m n : ℕ) → IsOpenType S n → ancestor S m n ≡ None → EachPlaced (IsDefined S) [] (line_within m S n)
 line_has S zero n o a = absurd (cc)
 line_has S (suc m) n o a = by (parent S n) refl (λ p up x. line_has S m p up x)
   where
     x : (d : Declaration) × (slice_get S n ≡ Some d)
     x = declared S n o.0
-    own : EachPlaced (HasValues S) (line_above S n) (fields_of S n)
+    own : EachPlaced (IsDefined S) (line_above S n) (fields_of S n)
     own =
         let at : fields_of S n ≡ x.0.fields = ap (λ (d : Option Declaration). option_map_or (λ d. d.fields) d []) x.1 in
-        subst (λ (fields : List Field). EachPlaced (HasValues S) (line_above S n) fields) (sym at)
+        subst (λ (fields : List Field). EachPlaced (IsDefined S) (line_above S n) fields) (sym at)
         (fields_placed S (is_struct x.0.what) (line_above S n) x.0.fields (own_facts S n x.0 x.1 (o.1 n (Here n))).fields)
     P : Option ℕ → Type 0
-    P y = EachPlaced (HasValues S) (option_map_or (line S) y []) (fields_of S n) → EachPlaced (HasValues S) [] (option_map_or (line_within m S) y [] ++ fields_of S n)
-    by : (y : Option ℕ) → parent S n ≡ y → ((p : ℕ) → IsOpenType S p → ancestor S m p ≡ None → EachPlaced (HasValues S) [] (line_within m S p))
-        → EachPlaced (HasValues S) [] (line_within (suc m) S n)
+    P y = EachPlaced (IsDefined S) (option_map_or (line S) y []) (fields_of S n) → EachPlaced (IsDefined S) [] (option_map_or (line_within m S) y [] ++ fields_of S n)
+    by : (y : Option ℕ) → parent S n ≡ y → ((p : ℕ) → IsOpenType S p → ancestor S m p ≡ None → EachPlaced (IsDefined S) [] (line_within m S p))
+        → EachPlaced (IsDefined S) [] (line_within (suc m) S n)
     by None e ih =
         let at : P None = λ h. h in
         subst P (sym e) at own
@@ -265,10 +376,10 @@ line_has S (suc m) n o a = by (parent S n) refl (λ p up x. line_has S m p up x)
         let up : IsOpenType S p = (parent_within S n p e, open_used S n p o.1 (uses_parent S n p e)) in
         let end : ancestor S m p ≡ None = sym (ancestor_up S m n p e) ∙ a in
         let same : line S p ≡ line_within m S p = line_same S (length S) m p (walk_ends S p up) end in
-        let at : P (Some p) = λ h. placed_append (HasValues S) [] (line_within m S p) (fields_of S n) (ih p up end)
-              (subst (λ (fields : List Field). EachPlaced (HasValues S) fields (fields_of S n)) same h) in
+        let at : P (Some p) = λ h. placed_append (IsDefined S) [] (line_within m S p) (fields_of S n) (ih p up end)
+              (subst (λ (fields : List Field). EachPlaced (IsDefined S) fields (fields_of S n)) same h) in
         subst P (sym e) at own
 
 -- In an open type each expression has a value.
-pub all_have_values : (S : Schema) (number : ℕ) → IsOpenType S number → AllHaveValues S number
-all_have_values S number o = line_has S (length S) number o (walk_ends S number o)
+pub all_defined : (S : Schema) (number : ℕ) → IsOpenType S number → AllDefined S number
+all_defined S number o = line_has S (length S) number o (walk_ends S number o)

@@ -63,11 +63,11 @@ no_reason_at [] k o e at = absurd (cc)
 no_reason_at (r ∷ reasons) zero o e at = let same : r ≡ o = cc in sym same ∙ (no_first r reasons e).0
 no_reason_at (r ∷ reasons) (suc k) o e at = no_reason_at reasons k o (no_first r reasons e).1 at
 
-no_reason : (reason : Closed) (b : Bool) → reason_where reason b ≡ None → b ≡ false
+pub no_reason : (reason : Closed) (b : Bool) → reason_where reason b ≡ None → b ≡ false
 no_reason reason true e = absurd (cc)
 no_reason reason false e = refl
 
-not_false : (b : Bool) → not b ≡ false → b ≡ true
+pub not_false : (b : Bool) → not b ≡ false → b ≡ true
 not_false true e = refl
 not_false false e = absurd (true≢false e)
 
@@ -75,11 +75,11 @@ not_true : (b : Bool) → not b ≡ true → b ≡ false
 not_true true e = absurd (true≢false (sym e))
 not_true false e = refl
 
-and_both : (a b : Bool) → (a && b) ≡ true → (a ≡ true) × (b ≡ true)
+pub and_both : (a b : Bool) → (a && b) ≡ true → (a ≡ true) × (b ≡ true)
 and_both true b e = (refl, e)
 and_both false b e = absurd (true≢false (sym e))
 
-or_cases : (a b : Bool) → (a || b) ≡ true → (a ≡ true) ⊎ (b ≡ true)
+pub or_cases : (a b : Bool) → (a || b) ≡ true → (a ≡ true) ⊎ (b ≡ true)
 or_cases true b e = inl refl
 or_cases false b e = inr e
 

@@ -8,7 +8,7 @@ ghost use Rattle.nif_layout.specs.Earlier.{Env};
 ghost use Rattle.nif_layout.specs.Form.{Form, form_of};
 ghost use Rattle.nif_layout.specs.Fault.{Fault};
 ghost use Rattle.nif_layout.specs.Members.{Check};
-ghost use Rattle.nif_layout.specs.Defined.{AllHaveValues};
+ghost use Rattle.nif_layout.specs.Defined.{AllDefined};
 ghost use Rattle.nif_layout.specs.Laws.{Fits, AllFit, IsOpenType, HasTemplate, OneNode, NoProperPrefix, OneForm, OneLine, SpelledOrFails, FormSpelledOrFails, LineSpelledOrFails};
 
 /// Two values of a type that are spelled by the same bytes are one.
@@ -48,7 +48,7 @@ pub fn line_spelled_or_fails<W>()
 {}
 
 /// In an open type each expression of each field of its line was read, and each path in it has a value, whatever was
-/// read of the fields before it.
-pub fn all_have_values()
-    ensures { (S : Schema) (number : ℕ) → IsOpenType S number → AllHaveValues S number }
+/// read of the fields before it; and a `width` that is the bare name of an array names arrays of numbers alone.
+pub fn all_defined()
+    ensures { (S : Schema) (number : ℕ) → IsOpenType S number → AllDefined S number }
 {}
