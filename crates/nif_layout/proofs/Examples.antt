@@ -10,14 +10,14 @@ use Rattle.nif_schema.specs.Schema.{Schema, parent}
 use Rattle.nif_schema.specs.Uses.{named as by_name, is_own_template}
 use Rattle.nif_schema.specs.Basic.{unsigned, bit_pattern}
 use Rattle.nif_schema.specs.declared.exprs.Op.TheVariants.{Eq}
-use Rattle.nif_schema.specs.declared.decls.What.{What}
+use Rattle.nif_schema.specs.declared.decls.Leaf.TheVariants as leaf
 use Rattle.nif_schema.specs.declared.decls.What.TheVariants.{Basic, Stored, Struct, Block}
 use Rattle.nif_schema.specs.declared.fields.Bound.TheVariants as bound
 use Rattle.nif_schema.specs.declared.fields.Exact.TheVariants as exact
 use Rattle.nif_layout.specs.Context.{Context}
 use Rattle.nif_layout.specs.Kind.{kind_of}
-use Rattle.nif_layout.specs.Form.{One}
-use Rattle.nif_layout.specs.Fault.{Fault, TooDeep, TooManyNodes, Point, most_bytes, most_nodes}
+use Rattle.nif_layout.specs.Form.{One, number_at_item}
+use Rattle.nif_layout.specs.Fault.{Fault, RefRange, TooDeep, TooManyNodes, Point, most_bytes, most_nodes}
 use Rattle.nif_layout.specs.Shape.{Shape, Spells, FormShape}
 use Rattle.nif_layout.specs.Fails.{Fails, ItemsFail, FormShapeFails}
 
@@ -44,6 +44,13 @@ basics =
     ∷ record { name = codes "uint64"; what = Basic (unsigned 8); fields = [] }
     ∷ record { name = codes "byte"; what = Basic (unsigned 1); fields = [] }
     ∷ record { name = codes "float"; what = Basic (bit_pattern 4); fields = [] }
+    ∷ []
+
+abbrev places : Schema
+places =
+    record { name = codes "Ref"; what = Basic leaf.Ref; fields = [] }
+    ∷ record { name = codes "NiFixedString"; what = Basic leaf.Text; fields = [] }
+    ∷ record { name = codes "LineString"; what = Basic leaf.Line; fields = [] }
     ∷ []
 
 -- a row of rows, whose lengths are bytes before it
@@ -136,12 +143,34 @@ bits = record {
     ∷ []
 }
 
+-- a name that stands three times
+abbrev thrice : Declaration
+thrice = record {
+  name = codes "Thrice"; what = Block None false; fields =
+    field (codes "Size") (codes "byte")
+    ∷ field (codes "Size") (codes "byte")
+    ∷ record (field (codes "Size") (codes "byte")) { cond = Some (Read (Number 0)) }
+    ∷ record (field (codes "Tail") (codes "byte")) { length = named (codes "Size"); until = Some (bound.Read (record { number = 0x04000002 })) }
+    ∷ []
+}
+
+-- places of blocks and of strings, and a line
+abbrev links : Declaration
+links = record {
+  name = codes "Links"; what = Block None false; fields =
+    record (field (codes "Next") (codes "Ref")) { template = Some (codes "Thrice") }
+    ∷ field (codes "Last") (codes "Ref")
+    ∷ field (codes "Label") (codes "NiFixedString")
+    ∷ field (codes "Note") (codes "LineString")
+    ∷ []
+}
+
 abbrev schema : Schema
-schema = basics ++ ragged ∷ volume ∷ hollow ∷ hollows ∷ key ∷ keys ∷ motion ∷ flags ∷ pair ∷ bits ∷ holder ∷ []
+schema = basics ++ ragged ∷ volume ∷ hollow ∷ hollows ∷ key ∷ keys ∷ motion ∷ flags ∷ pair ∷ bits ∷ holder ∷ thrice ∷ links ∷ places
 
 -- version 4.0.0.2
 abbrev context : Context
-context = record { version = 0x04000002; user = 0; bs = 0; order = Little; owner = None; blocks = 1; strings = 0 }
+context = record { version = 0x04000002; user = 0; bs = 0; order = Little; owner = None; blocks = 1; strings = 1 }
 
 abbrev byte : ℕ → Node
 byte n = node.Num 1 false n
@@ -240,6 +269,48 @@ bits_nodes = refl
 -- the same number with its highest byte first
 big_first : text Big (word 0x30000002) ≡ 0x30 ∷ 0 ∷ 0 ∷ 2 ∷ []
 big_first = refl
+
+-- ---- the last present field of a name counts, and both ends of a range of versions are inside
+
+abbrev thrice_node : Node
+thrice_node = node.Group (Here (byte 1) (Here (byte 3) (Absent (Here (node.Bytes (7 ∷ 8 ∷ 9 ∷ [])) End))))
+
+thrice_spelled : Spells schema context 64 15 None 0 thrice_node (1 ∷ 3 ∷ 7 ∷ 8 ∷ 9 ∷ [])
+unfolding parent by_name is_own_template
+thrice_spelled =
+    ((_, refl,
+      (_, _, refl, (1, refl, lit< tt), (refl,
+      (_, _, refl, (3, refl, lit< tt), (refl,
+      (_, refl, (refl,
+      (_, _, refl, (_, refl, refl, (lit< tt, (lit< tt, (lit< tt, tt)))), (refl, refl))))))))),
+     refl)
+
+-- an item of a run of bytes counts by the sign of its basic
+item_signs : (number_at_item true 0 (node.Bytes (0xFF ∷ [])) ≡ 0xFFFFFFFFFFFFFFFF) × (number_at_item false 0 (node.Bytes (0xFF ∷ [])) ≡ 0xFF)
+item_signs = (refl, refl)
+
+-- ---- with the highest byte first
+
+abbrev big : Context
+big = record context { order = Big }
+
+abbrev links_node : Node
+links_node = node.Group (row (node.Ref true (Some 15) (Some 0) ∷ node.Ref true None None ∷ node.Text (Some 0) ∷ node.Line (0x41 ∷ []) ∷ []))
+
+links_spelled : Spells schema big 64 16 None 0 links_node (0 ∷ 0 ∷ 0 ∷ 0 ∷ 0xFF ∷ 0xFF ∷ 0xFF ∷ 0xFF ∷ 0 ∷ 0 ∷ 0 ∷ 0 ∷ 0x41 ∷ 0x0A ∷ [])
+unfolding parent by_name is_own_template
+links_spelled =
+    ((_, refl,
+      (_, _, refl, (Some 0, refl, lit< tt), (refl,
+      (_, _, refl, (None, refl, tt), (refl,
+      (_, _, refl, (Some 0, refl, lit< tt), (refl,
+      (_, _, refl, (0x41 ∷ [], refl, (lit< tt, (λ e. cc), tt), lit≤ tt), (refl, refl))))))))),
+     refl)
+
+-- a place of no block
+far_fails : Fails schema big 64 (kind_of schema big 16 None 0) (record { nodes = 16; place = 92; left = 1 ∷ 0 ∷ 0 ∷ 0 ∷ [] }) (RefRange 92 16777216)
+unfolding parent by_name is_own_template
+far_fails = inr (lit< tt, inl (RefRange 92 16777216, refl, inr (lit< tt, refl)))
 
 -- ---- structs, one in another, as deep as may be
 
