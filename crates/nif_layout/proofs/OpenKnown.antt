@@ -137,10 +137,10 @@ field_known S C d in_struct template arg E f ih good hole = by good
     by (inl a) =
         let x = hole a.0 (or_left (is_own_template f.kind) (option_map_or is_own_template f.template false) a.1) in
         let e : replaced S template f.kind ≡ Some x.0 = replaced_own S template f.kind true a.1 ∙ x.1 in
-        subst P (sym e) (ih x.0 inner _ x.2 (λ g. absurd (true≢false (sym g ∙ x.3))))
+        subst P (sym e) (ih x.0 inner (option_map_or (formula_value S C E arg) f.arg 0) x.2 (λ g. absurd (true≢false (sym g ∙ x.3))))
     by (inr a) =
         let e : replaced S template f.kind ≡ Some a.0 = replaced_own S template f.kind false a.1 ∙ a.2 in
-        subst P (sym e) (ih a.0 inner _ a.3 (λ g. template_known S in_struct template f.template (a.4 g)
+        subst P (sym e) (ih a.0 inner (option_map_or (formula_value S C E arg) f.arg 0) a.3 (λ g. template_known S in_struct template f.template (a.4 g)
             (λ s t. hole s (or_right (is_own_template f.kind) (option_map_or is_own_template f.template false) t))))
 
 form_known : (S : Schema) (C : Context) (d : ℕ) (count : Option ℕ) (width : Option (ℕ → ℕ)) (run : Bool) (kind : Kind) → Known S C d kind → KnownForm (Known S C d) (sized count width run kind)
