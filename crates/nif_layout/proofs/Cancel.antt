@@ -29,7 +29,7 @@ pub member : (order : Order) (T : Option Node → Members → List ℕ) (here : 
     → Cancels order V W → ((got : Option Node) → AllCancel (T got) (R got) (Q got)) → AllCancel (member_text order T) (Member here V R) (Member here W Q)
 member order T true V W R Q first rest a b x y ha hb e =
     let e' : text order ha.0 ++ (T (Some ha.0) ha.1 ++ x) ≡ text order hb.0 ++ (T (Some hb.0) hb.1 ++ y) =
-        rw (← append_assoc (text order ha.0) (T (Some ha.0) ha.1) x, ← append_assoc (text order hb.0) (T (Some hb.0) hb.1) y) (rw (ha.2, hb.2) at e) in
+    rw (← append_assoc (text order ha.0) (T (Some ha.0) ha.1) x, ← append_assoc (text order hb.0) (T (Some hb.0) hb.1) y) (rw (ha.2, hb.2) at e) in
     let one = first ha.0 hb.0 (T (Some ha.0) ha.1 ++ x) (T (Some hb.0) hb.1 ++ y) ha.3 hb.3 e' in
     let same : ha.0 ≡ hb.0 = one.0 in
     let P : Node → Type 0 = λ m. R (Some m) ha.1 × (T (Some m) ha.1 ++ x ≡ T (Some hb.0) hb.1 ++ y) in
@@ -96,7 +96,7 @@ items_cancel order V W each i zero a b x y ha hb e = (ha ∙ sym hb, rw (ha, hb)
 items_cancel order V W each i (suc n) a b x y ha hb e =
     one_order_cancel order (Items V i (suc n)) (Items W i (suc n))
     (member order (λ got. texts order) true (V i) (W i) (λ got. Items V (i + 1) n) (λ got. Items W (i + 1) n) (each i)
-        (λ got. items_cancel order V W each (i + 1) n)) a b x y ha hb e
+    (λ got. items_cancel order V W each (i + 1) n)) a b x y ha hb e
 
 pub form_cancel : (order : Order) (V W : Kind → Node → Type 0) → ((k : Kind) → Cancels order (V k) (W k))
     → (form : Form) → Cancels order (IsForm V form) (IsForm W form)
@@ -162,9 +162,9 @@ shape_cancel S C fits zero d (Group fields template arg) a b x y ha hb e = absur
 shape_cancel S C fits (suc c) zero (Group fields template arg) a b x y ha hb e = absurd hb
 shape_cancel S C fits (suc c) (suc d) (Group fields template arg) a b x y ha hb e =
     let r = group_cancel C.order (present S C arg)
-            (λ E f. IsForm (Shape S C c) (form_of S C template arg E f)) (λ E f. IsForm (Shape S C d) (form_of S C template arg E f)) (no_check {Why = Fault})
-            (λ E f. form_cancel C.order (Shape S C c) (Shape S C d) (λ k. shape_cancel S C fits c d k) (form_of S C template arg E f))
-            fields ha.0 hb.0 x y ha.2 hb.2 (rw (ha.1, hb.1) at e) in
+    (λ E f. IsForm (Shape S C c) (form_of S C template arg E f)) (λ E f. IsForm (Shape S C d) (form_of S C template arg E f)) (no_check {Why = Fault})
+    (λ E f. form_cancel C.order (Shape S C c) (Shape S C d) (λ k. shape_cancel S C fits c d k) (form_of S C template arg E f))
+    fields ha.0 hb.0 x y ha.2 hb.2 (rw (ha.1, hb.1) at e) in
     (ha.1 ∙ ap (λ m. node.Group m) r.0 ∙ sym hb.1, r.1)
 shape_cancel S C fits c d Unknown a b x y ha hb e = absurd ha
 

@@ -105,8 +105,8 @@ fields_decide by_fault order here V F check [] each E at w n = inl (End, at, ref
 fields_decide by_fault order here V F check (f ∷ fields) each E at w n =
     member_decides by_fault (order E) (λ got. fields_text order fields (behind f got E)) (here E f) (V E f) (F E f) _ _ (each.0 E)
     (λ got at w n. refused_decided (check E f got) (fields_text order fields (behind f got E)) (Fields here V check fields (behind f got E))
-        (FieldsFail by_fault order here V F check fields (behind f got E)) at (check E f got) refl
-        (fields_decide by_fault order here V F check fields each.1 (behind f got E) at w n)) at w n
+    (FieldsFail by_fault order here V F check fields (behind f got E)) at (check E f got) refl
+    (fields_decide by_fault order here V F check fields each.1 (behind f got E) at w n)) at w n
 
 pub items_decide : (order : Order) (V : ℕ → Node → Type 0) (F : ℕ → Point → Fault → Type 0) → ((i : ℕ) → Decides order (V i) (F i))
     → (i n : ℕ) → AllDecide (texts order) (Items V i n) (ItemsFail order V F i n)
@@ -114,4 +114,4 @@ items_decide order V F each i zero at w n = inl (End, at, refl, nothing at w n)
 items_decide order V F each i (suc k) at w n =
     one_order_decided order (Items V i (suc k)) (ItemsFail order V F i (suc k)) at
     (member_decides (λ f. f) order (λ got. texts order) true (V i) (F i) (λ got. Items V (i + 1) k) (λ got. ItemsFail order V F (i + 1) k) (each i)
-        (λ got. items_decide order V F each (i + 1) k) at w n)
+    (λ got. items_decide order V F each (i + 1) k) at w n)

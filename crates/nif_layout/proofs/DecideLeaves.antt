@@ -68,7 +68,10 @@ passes_skip k at s e l w n =
     let len' : length s ≡ k = ap length e ∙ len in
     record {
       here = sym (take-append-drop k at.left) ∙ ap (λ x. x ++ drop k at.left) (sym e);
-      place = ap (λ x. at.place + x) (sym len'); nodes = omega arith; within = w; counted = n
+      place = ap (λ x. at.place + x) (sym len');
+      nodes = omega arith;
+      within = w;
+      counted = n;
     }
 
 pub bytes_append : (s t : List ℕ) → AreBytes s → AreBytes t → AreBytes (s ++ t)
@@ -134,7 +137,7 @@ newline_found (suc most) (b ∷ s) k h e = by (eqb b 0x0A) (newline most s) refl
     by : (t : Bool) (o : Option ℕ) → eqb b 0x0A ≡ t → newline most s ≡ o
         → (if t then Some 0 else option_map (λ k. suc k) o) ≡ Some k
         → ((j : ℕ) → AreBytes s → newline most s ≡ Some j
-            → (line : List ℕ) × (rest : List ℕ) × (s ≡ line ++ 0x0A ∷ rest) × AreInLine line × (length line ≡ j) × (j < most))
+        → (line : List ℕ) × (rest : List ℕ) × (s ≡ line ++ 0x0A ∷ rest) × AreInLine line × (length line ≡ j) × (j < most))
         → (line : List ℕ) × (rest : List ℕ) × (b ∷ s ≡ line ++ 0x0A ∷ rest) × AreInLine line × (length line ≡ k) × (k < suc most)
     by true o et eo q ih =
         let same : b ≡ 0x0A = eqb-true b 0x0A et in
@@ -178,7 +181,7 @@ line_inside C at w n (Some k) e (inr r) =
     let low : k < 256 = f.5 in
     let P : ℕ → Type 0 = λ j. f.0 ++ 0x0A ∷ [] ≡ take (suc j) at.left in
     let t : f.0 ++ 0x0A ∷ [] ≡ take (suc k) at.left =
-        subst P len (sym (take_line f.0 f.1) ∙ ap (λ s. take (suc (length f.0)) s) (sym f.2)) in
+    subst P len (sym (take_line f.0 f.1) ∙ ap (λ s. take (suc (length f.0)) s) (sym f.2)) in
     inl (node.Line f.0, skip (suc k) at, 0, (f.0, refl, f.3, omega arith), refl, passes_skip (suc k) at (f.0 ++ 0x0A ∷ []) t r.1 r.2 n)
 
 place_inside : (order : Order) (V : Node → Type 0) (make : Option ℕ → Node) (most : ℕ) (fault : Fault) (at : Point)
@@ -191,8 +194,10 @@ place_inside order V make most fault at holds one spelled w n (inr r) = by (plac
   where
     v : ℕ
     v = number_at (is_little order) 4 at.left
+
     t : (number (is_little order) 4 v ≡ take 4 at.left) × (v < 256 ^ 4)
     t = number_taken (is_little order) 4 at.left w.bytes r.1
+
     by : (((place : Option ℕ) × IsBelow most place × (place_or_none place ≡ v)) ⊎ (range_fault most v fault ≡ Some fault))
         → Inside order V (λ q w. or_else (shortage 4 q) (range_fault most (number_at (is_little order) 4 q.left) fault) ≡ Some w) at
     by (inl p) =
@@ -214,10 +219,10 @@ pub leaf_decides_ref : (C : Context) (strong : Bool) (wanted : Option ℕ) → D
 leaf_decides_ref C strong wanted at w =
     counted_decides C.order (IsLeaf C (Ref strong wanted)) (λ q x. leaf_fault C (Ref strong wanted) q ≡ Some x)
     (λ q hw hn. place_inside C.order (IsLeaf C (Ref strong wanted)) (λ p. node.Ref strong wanted p) C.blocks
-        (RefRange q.place (number_at (is_little C.order) 4 q.left)) q (λ p h. (p, refl, h)) (λ p. refl) (λ p. refl) hw hn (enough 4 q)) at w
+    (RefRange q.place (number_at (is_little C.order) 4 q.left)) q (λ p h. (p, refl, h)) (λ p. refl) (λ p. refl) hw hn (enough 4 q)) at w
 
 pub leaf_decides_text : (C : Context) → Decides C.order (IsLeaf C Text) (LeafFails C Text)
 leaf_decides_text C at w =
     counted_decides C.order (IsLeaf C Text) (λ q x. leaf_fault C Text q ≡ Some x)
     (λ q hw hn. place_inside C.order (IsLeaf C Text) (λ p. node.Text p) C.strings
-        (StringRange q.place (number_at (is_little C.order) 4 q.left)) q (λ p h. (p, refl, h)) (λ p. refl) (λ p. refl) hw hn (enough 4 q)) at w
+    (StringRange q.place (number_at (is_little C.order) 4 q.left)) q (λ p h. (p, refl, h)) (λ p. refl) (λ p. refl) hw hn (enough 4 q)) at w

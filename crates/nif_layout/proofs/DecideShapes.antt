@@ -39,8 +39,14 @@ run_inside : (order : Order) (V : Kind → Node → Type 0) (n : ℕ) (at : Poin
     → Inside order (IsForm V (Run n)) (λ q x. shortage n q ≡ Some x) at
 run_inside order V n at w c (inl r) = inr (r.0, r.1)
 run_inside order V n at w c (inr r) =
-    inl (node.Bytes (take n at.left), skip n at, 0, (take n at.left, refl, length-take-le n at.left r.1, bytes_take n at.left w.bytes), refl,
-         passes_skip n at (take n at.left) refl r.1 r.2 c)
+    inl (
+      node.Bytes (take n at.left),
+      skip n at,
+      0,
+      (take n at.left, refl, length-take-le n at.left r.1, bytes_take n at.left w.bytes),
+      refl,
+      passes_skip n at (take n at.left) refl r.1 r.2 c,
+    )
 
 row_inside : (order : Order) (V : Kind → Node → Type 0) (F : Kind → Point → Fault → Type 0) (n : ℕ) (item : ℕ → Form) (at : Point)
     → AllDecided (texts order) (Items (λ i. IsForm V (item i)) 0 n) (ItemsFail order (λ i. IsForm V (item i)) (λ i. FormFails order V F (item i)) 0 n) at
@@ -57,7 +63,7 @@ form_decides order V F U each (Run n) u at w =
 form_decides order V F U each (Row n item) u at w =
     counted_decides order (IsForm V (Row n item)) (ItemsFail order (λ i. IsForm V (item i)) (λ i. FormFails order V F (item i)) 0 n)
     (λ q hw hn. row_inside order V F n item q
-        (items_decide order (λ i. IsForm V (item i)) (λ i. FormFails order V F (item i)) (λ i. form_decides order V F U each (item i) (u i)) 0 n q hw hn)) at w
+    (items_decide order (λ i. IsForm V (item i)) (λ i. FormFails order V F (item i)) (λ i. form_decides order V F U each (item i) (u i)) 0 n q hw hn)) at w
 
 group_inside : (S : Schema) (C : Context) (V : Kind → Node → Type 0) (F : Kind → Point → Fault → Type 0) (fields : List Field) (template : Option ℕ) (arg : ℕ) (at : Point)
     → AllDecided (fields_text (λ E. C.order) fields []) (Fields (present S C arg) (λ E f. IsForm V (form_of S C template arg E f)) (no_check {Why = Fault}) fields []) (GroupFails S C V F fields template arg) at
@@ -65,7 +71,7 @@ group_inside : (S : Schema) (C : Context) (V : Kind → Node → Type 0) (F : Ki
 group_inside S C V F fields template arg at (inl r) =
     let P : List ℕ → Type 0 = λ s. Passes s (nodes_in r.0) at r.1 in
     let p : Passes (texts C.order r.0) (nodes_in r.0) at r.1 =
-        subst P (same_text C.order (present S C arg) (λ E f. IsForm V (form_of S C template arg E f)) (no_check {Why = Fault}) fields [] r.0 r.2) r.3 in
+    subst P (same_text C.order (present S C arg) (λ E f. IsForm V (form_of S C template arg E f)) (no_check {Why = Fault}) fields [] r.0 r.2) r.3 in
     inl (node.Group r.0, r.1, nodes_in r.0, (r.0, refl, r.2), refl, p)
 group_inside S C V F fields template arg at (inr r) = inr r
 
@@ -83,12 +89,12 @@ shape_decides S C (suc d) (Group fields template arg) u at w =
     let V = Shape S C d in
     let F = Fails S C d in
     let each : EachField (λ f. (E : Env) → Decides C.order (IsForm V (form_of S C template arg E f)) (FormFails C.order V F (form_of S C template arg E f))) fields =
-        each_field (λ f. (E : Env) → KnownForm (Known S C d) (form_of S C template arg E f)) _
-        (λ f h E. form_decides C.order V F (Known S C d) (λ k uk. shape_decides S C d k uk) (form_of S C template arg E f) (h E)) fields u in
+    each_field (λ f. (E : Env) → KnownForm (Known S C d) (form_of S C template arg E f)) _
+    (λ f h E. form_decides C.order V F (Known S C d) (λ k uk. shape_decides S C d k uk) (form_of S C template arg E f) (h E)) fields u in
     counted_decides C.order (IsGroup S C V fields template arg) (GroupFails S C V F fields template arg)
     (λ q hw hn. group_inside S C V F fields template arg q
-        (fields_decide (λ f. f) (λ E. C.order) (present S C arg) (λ E f. IsForm V (form_of S C template arg E f)) (λ E f. FormFails C.order V F (form_of S C template arg E f)) no_check
-            fields each [] q hw hn)) at w
+    (fields_decide (λ f. f) (λ E. C.order) (present S C arg) (λ E f. IsForm V (form_of S C template arg E f)) (λ E f. FormFails C.order V F (form_of S C template arg E f)) no_check
+    fields each [] q hw hn)) at w
 shape_decides S C d Unknown u at w = absurd u
 
 pub form_shape_decides : (S : Schema) (C : Context) (d : ℕ) (form : Form) → KnownForm (Known S C d) form → Decides C.order (FormShape S C d form) (FormShapeFails S C d form)

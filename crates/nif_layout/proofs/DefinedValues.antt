@@ -1,5 +1,5 @@
 -- Each expression of the line of an open type has a value.
-use Rattle.std.proofs.Common.{◌≡◌, ℕ, zero, suc, ◌+◌, ◌<◌, ◌⊎◌, inl, inr, Bool, true, false, ◌&&◌, ◌||◌, not, if◌then◌else◌, is_some, is_none, IsSome, Option, Some, None, List, [], ◌∷◌, ◌++◌, length, map, slice_get, slice_index_or, bytes_eq, option_and_then, refl, sym, ◌∙◌, ap, subst, true≢false, arith, append_assoc, append-nil}
+use Rattle.std.proofs.Common.{◌≡◌, ℕ, zero, suc, ◌<◌, ◌⊎◌, inl, inr, Bool, true, false, ◌&&◌, ◌||◌, if◌then◌else◌, is_some, is_none, IsSome, Option, Some, None, List, [], ◌∷◌, ◌++◌, length, map, slice_get, slice_index_or, bytes_eq, option_and_then, refl, sym, ◌∙◌, ap, subst, true≢false, arith, append_assoc, append-nil}
 use Rattle.std.specs.Prelude.{Contains, filter, codes}
 use Rattle.std.specs.Option.{option_map_or}
 use Rattle.std.specs.List.{list_any, list_all}
@@ -7,17 +7,17 @@ use Rattle.nif_schema.specs.Declaration.{Name, Formula, Read, Bad, Field, Declar
 use Rattle.nif_schema.specs.Expression.{Tree, Number, Arg, Path, Not, Two}
 use Rattle.nif_schema.specs.Schema.{Schema, parent, ancestor, fields_of, line, line_within}
 use Rattle.nif_schema.specs.Uses.{is_struct, Here}
-use Rattle.nif_schema.specs.Paths.{paths_of, has_numbers, is_number, is_number_array, fields_named, is_header_path, rest_reason, path_reason, Meaning, OfField}
-use Rattle.nif_schema.specs.Reasons.{first_reason, reason_where, kind_reason, template_reason, is_bad_bound, is_no_block, is_bad_exact, formula_reason, width_reason, width_where, bare_width_reason, field_reason, fields_reason, line_above, has_no_root, own_reason, IsOpen}
+use Rattle.nif_schema.specs.Paths.{paths_of, has_numbers, is_number, is_number_array, is_header_path, rest_reason, path_reason, OfField}
+use Rattle.nif_schema.specs.Reasons.{first_reason, reason_where, kind_reason, template_reason, is_bad_bound, is_no_block, is_bad_exact, formula_reason, width_reason, width_where, bare_width_reason, field_reason, fields_reason, line_above, has_no_root}
 use Rattle.nif_schema.specs.declared.faults.Closed.{Closed}
 use Rattle.nif_schema.specs.declared.faults.Closed.TheVariants as closed
 use Rattle.nif_layout.specs.Context.{Context}
-use Rattle.nif_layout.specs.Earlier.{Earlier, Env, is_named, has_name, last_present}
+use Rattle.nif_layout.specs.Earlier.{Env, is_named, has_name, last_present}
 use Rattle.nif_layout.specs.PathValue.{header_value, path_value, follow, found}
 use Rattle.nif_layout.specs.Laws.{IsOpenType}
-use Rattle.nif_layout.specs.Defined.{fields_before, EachPlaced, expressions, HasValue, HasValues, NamesNumbers, IsDefined, AllDefined}
+use Rattle.nif_layout.specs.Defined.{fields_before, EachPlaced, HasValue, HasValues, NamesNumbers, IsDefined, AllDefined}
 use Rattle.nif_layout.specs.Form.{is_array, array_name}
-use Rattle.nif_layout.proofs.OpenTypes.{or_left, or_right, or_cases, and_both, not_false, no_reason, no_first, no_reason_at, open_used, declared, OwnFacts, own_facts, find_within, parent_within}
+use Rattle.nif_layout.proofs.OpenTypes.{or_left, or_right, or_cases, and_both, not_false, no_reason, no_first, no_reason_at, open_used, declared, own_facts, parent_within}
 use Rattle.nif_layout.proofs.OpenKnown.{uses_parent}
 
 -- ---- one path
@@ -73,6 +73,7 @@ path_some S C E (name ∷ names) e = by (has_name name E) refl
         passed true h = refl
         passed false h = absurd (cc)
     header (f ∷ ms) q h = absurd (cc)
+
     by : (b : Bool) → has_name name E ≡ b → IsSome (path_value S C E (name ∷ names))
     by true h = named_some S C E name names h
     by false h =
@@ -96,16 +97,20 @@ no_path_reason S earlier (first ∷ paths) e path c = by (contained_cases first 
   where
     r : (path_reason S earlier first ≡ None) × (first_reason (map (path_reason S earlier) paths) ≡ None)
     r = no_first (path_reason S earlier first) (map (path_reason S earlier) paths) e
+
     by : (first ≡ path) ⊎ Contains paths path → (Contains paths path → path_reason S earlier path ≡ None) → path_reason S earlier path ≡ None
     by (inl same) ih = subst (λ (p : List Name). path_reason S earlier p ≡ None) same r.0
     by (inr d) ih = ih d
 
 read_value : (S : Schema) (earlier : List Field) (of : Tree) → formula_reason S earlier (Some (Read of)) ≡ None → HasValue S earlier (Read of)
-read_value S earlier of e =
-    (of, refl, λ C E same path c.
+read_value S earlier of e = (
+  of,
+  refl,
+  λ C E same path c.
       let none : path_reason S earlier path ≡ None = no_path_reason S earlier (paths_of of) e path c in
       let none' : path_reason S (fields_before E) path ≡ None = subst (λ (fields : List Field). path_reason S fields path ≡ None) (sym same) none in
-      path_some S C E path none')
+      path_some S C E path none',
+)
 
 formula_has : (S : Schema) (earlier : List Field) (formula : Formula) → formula_reason S earlier (Some formula) ≡ None → HasValue S earlier formula
 formula_has S earlier Bad e = absurd (cc)
@@ -159,10 +164,13 @@ bare_has S earlier name e = by (list_any (λ (f : Field). bytes_eq name f.name) 
     by : (b : Bool) → list_any (λ (f : Field). bytes_eq name f.name) earlier ≡ b
         → (if b then bare_width_reason S (filter (λ (f : Field). bytes_eq name f.name) earlier) else formula_reason S earlier (Some (Read (Path (name ∷ []))))) ≡ None
         → HasValue S earlier (Read (Path (name ∷ [])))
-    by true a h =
-        (Path (name ∷ []), refl, λ C E same path c.
+    by true a h = (
+      Path (name ∷ []),
+      refl,
+      λ C E same path c.
           let any : list_any (λ (f : Field). bytes_eq name f.name) (fields_before E) ≡ true = subst (λ (fields : List Field). list_any (λ (f : Field). bytes_eq name f.name) fields ≡ true) (sym same) a in
-          bare C E path (contained_cases (name ∷ []) [] path c) any)
+          bare C E path (contained_cases (name ∷ []) [] path c) any,
+    )
       where
         bare : (C : Context) (E : Env) (path : List Name) → ((name ∷ []) ≡ path) ⊎ Contains [] path → list_any (λ (f : Field). bytes_eq name f.name) (fields_before E) ≡ true → IsSome (path_value S C E path)
         bare C E path (inl same) any = subst (λ (p : List Name). IsSome (path_value S C E p)) same (named_some S C E name [] (has_earlier name E any))
@@ -210,6 +218,7 @@ no_numbers S name (earlier ∷ before) a e = by (is_named name earlier) refl a (
   where
     r : (list_all (is_number S) (filter (λ (f : Field). bytes_eq name f.name) (fields_before before)) ≡ true) × (bytes_eq name earlier.field.name ≡ true → is_number S earlier.field ≡ true)
     r = all_append (is_number S) (λ (f : Field). bytes_eq name f.name) (fields_before before) earlier.field e
+
     by : (b : Bool) → is_named name earlier ≡ b → (if b then is_some earlier.field.length else is_array name before) ≡ true
         → (is_array name before ≡ true → list_all (is_number S) (filter (λ (f : Field). bytes_eq name f.name) (fields_before before)) ≡ true → ⊥) → ⊥
     by true eb h ih = some_none earlier.field.length h (and_both (is_none earlier.field.length) (has_numbers S earlier.field) (r.1 eb)).0
@@ -284,24 +293,32 @@ field_values S in_struct earlier f e formula c = by (contained_cases f.vercond (
   where
     reasons : List (Option Closed)
     reasons = reasons_of S in_struct earlier f
+
     one : (o : Option Formula) → formula_reason S earlier o ≡ None → o ≡ Some formula → HasValue S earlier formula
     one o h same = formula_has S earlier formula (subst (λ (o : Option Formula). formula_reason S earlier o ≡ None) same h)
+
     last : (o : Option Formula) → width_reason S earlier o ≡ None → o ≡ Some formula → HasValue S earlier formula
     last o h same = width_has S earlier formula (subst (λ (o : Option Formula). width_reason S earlier o ≡ None) same h)
+
     nothing : Contains [] (Some formula) → HasValue S earlier formula
     nothing c = let l : c.0 < 0 = c.1 in absurd (omega arith)
+
     by5 : (width_where f.length f.width ≡ Some formula) ⊎ Contains [] (Some formula) → HasValue S earlier formula
     by5 (inl same) = last (width_where f.length f.width) (no_reason_at reasons 9 (width_reason S earlier (width_where f.length f.width)) e refl) same
     by5 (inr c) = nothing c
+
     by4 : (f.length ≡ Some formula) ⊎ Contains (width_where f.length f.width ∷ []) (Some formula) → HasValue S earlier formula
     by4 (inl same) = one f.length (no_reason_at reasons 8 (formula_reason S earlier f.length) e refl) same
     by4 (inr c) = by5 (contained_cases (width_where f.length f.width) [] (Some formula) c)
+
     by3 : (f.arg ≡ Some formula) ⊎ Contains (f.length ∷ width_where f.length f.width ∷ []) (Some formula) → HasValue S earlier formula
     by3 (inl same) = one f.arg (no_reason_at reasons 7 (formula_reason S earlier f.arg) e refl) same
     by3 (inr c) = by4 (contained_cases f.length (width_where f.length f.width ∷ []) (Some formula) c)
+
     by2 : (f.cond ≡ Some formula) ⊎ Contains (f.arg ∷ f.length ∷ width_where f.length f.width ∷ []) (Some formula) → HasValue S earlier formula
     by2 (inl same) = one f.cond (no_reason_at reasons 6 (formula_reason S earlier f.cond) e refl) same
     by2 (inr c) = by3 (contained_cases f.arg (f.length ∷ width_where f.length f.width ∷ []) (Some formula) c)
+
     by : (f.vercond ≡ Some formula) ⊎ Contains (f.cond ∷ f.arg ∷ f.length ∷ width_where f.length f.width ∷ []) (Some formula) → HasValue S earlier formula
     by (inl same) = one f.vercond (no_reason_at reasons 5 (formula_reason S earlier f.vercond) e refl) same
     by (inr c) = by2 (contained_cases f.cond (f.arg ∷ f.length ∷ width_where f.length f.width ∷ []) (Some formula) c)
@@ -313,7 +330,7 @@ last_reason S in_struct earlier f e = no_reason_at (reasons_of S in_struct earli
 field_has : (S : Schema) (in_struct : Bool) (earlier : List Field) (f : Field) → field_reason S in_struct earlier f ≡ None → IsDefined S earlier f
 field_has S in_struct earlier f e = record {
   values = field_values S in_struct earlier f e;
-  widths = field_widths S earlier f (last_reason S in_struct earlier f e)
+  widths = field_widths S earlier f (last_reason S in_struct earlier f e);
 }
 
 -- ---- the fields of a line
@@ -342,6 +359,7 @@ line_same S (suc m) (suc l) n a b = by (parent S n) refl (λ p x y. line_same S 
   where
     P : Option ℕ → Type 0
     P x = option_map_or (line_within m S) x [] ++ fields_of S n ≡ option_map_or (line_within l S) x [] ++ fields_of S n
+
     by : (x : Option ℕ) → parent S n ≡ x → ((p : ℕ) → ancestor S m p ≡ None → ancestor S l p ≡ None → line_within m S p ≡ line_within l S p) → P (parent S n)
     by None e ih = subst P (sym e) refl
     by (Some p) e ih = subst P (sym e) (ap (λ (fields : List Field). fields ++ fields_of S n) (ih p (sym (ancestor_up S m n p e) ∙ a) (sym (ancestor_up S l n p e) ∙ b)))
@@ -360,13 +378,16 @@ line_has S (suc m) n o a = by (parent S n) refl (λ p up x. line_has S m p up x)
   where
     x : (d : Declaration) × (slice_get S n ≡ Some d)
     x = declared S n o.0
+
     own : EachPlaced (IsDefined S) (line_above S n) (fields_of S n)
     own =
         let at : fields_of S n ≡ x.0.fields = ap (λ (d : Option Declaration). option_map_or (λ d. d.fields) d []) x.1 in
         subst (λ (fields : List Field). EachPlaced (IsDefined S) (line_above S n) fields) (sym at)
         (fields_placed S (is_struct x.0.what) (line_above S n) x.0.fields (own_facts S n x.0 x.1 (o.1 n (Here n))).fields)
+
     P : Option ℕ → Type 0
     P y = EachPlaced (IsDefined S) (option_map_or (line S) y []) (fields_of S n) → EachPlaced (IsDefined S) [] (option_map_or (line_within m S) y [] ++ fields_of S n)
+
     by : (y : Option ℕ) → parent S n ≡ y → ((p : ℕ) → IsOpenType S p → ancestor S m p ≡ None → EachPlaced (IsDefined S) [] (line_within m S p))
         → EachPlaced (IsDefined S) [] (line_within (suc m) S n)
     by None e ih =
@@ -377,7 +398,7 @@ line_has S (suc m) n o a = by (parent S n) refl (λ p up x. line_has S m p up x)
         let end : ancestor S m p ≡ None = sym (ancestor_up S m n p e) ∙ a in
         let same : line S p ≡ line_within m S p = line_same S (length S) m p (walk_ends S p up) end in
         let at : P (Some p) = λ h. placed_append (IsDefined S) [] (line_within m S p) (fields_of S n) (ih p up end)
-              (subst (λ (fields : List Field). EachPlaced (IsDefined S) fields (fields_of S n)) same h) in
+        (subst (λ (fields : List Field). EachPlaced (IsDefined S) fields (fields_of S n)) same h) in
         subst P (sym e) at own
 
 -- In an open type each expression has a value.

@@ -1,5 +1,5 @@
 -- The definitions at small values: each node meets the shape of its type and spells the bytes that stand beside it.
-use Rattle.std.proofs.Common.{◌≡◌, ℕ, zero, suc, ◌+◌, ◌*◌, ◌<◌, ◌≤◌, Bool, true, false, Option, Some, None, List, [], ◌∷◌, ◌++◌, length, refl, sym, ◌∙◌, ap, lit<, lit≤, inl, inr, arith}
+use Rattle.std.proofs.Common.{◌≡◌, ℕ, zero, suc, ◌+◌, ◌*◌, ◌<◌, ◌≤◌, true, false, Option, Some, None, List, [], ◌∷◌, ◌++◌, refl, ap, lit<, lit≤, inl, inr, arith}
 use Rattle.std.specs.Prelude.{codes}
 use Rattle.nif_base.specs.declared.orders.Order.TheVariants.{Little, Big}
 use Rattle.nif_base.specs.Node as node
@@ -17,7 +17,7 @@ use Rattle.nif_schema.specs.declared.fields.Exact.TheVariants as exact
 use Rattle.nif_layout.specs.Context.{Context}
 use Rattle.nif_layout.specs.Kind.{kind_of}
 use Rattle.nif_layout.specs.Form.{One, number_at_item}
-use Rattle.nif_layout.specs.Fault.{Fault, RefRange, TooDeep, TooManyNodes, Point, most_bytes, most_nodes}
+use Rattle.nif_layout.specs.Fault.{RefRange, TooDeep, TooManyNodes, most_bytes, most_nodes}
 use Rattle.nif_layout.specs.Shape.{Shape, Spells, FormShape}
 use Rattle.nif_layout.specs.Fails.{Fails, ItemsFail, FormShapeFails}
 
@@ -25,8 +25,20 @@ use Rattle.nif_layout.specs.Fails.{Fails, ItemsFail, FormShapeFails}
 
 abbrev field : Name → Name → Field
 field name kind = record {
-  name = name; kind = kind; template = None; arg = None; length = None; width = None; cond = None; vercond = None;
-  since = None; until = None; user = None; bs = None; only = None; exclude = None
+  name = name;
+  kind = kind;
+  template = None;
+  arg = None;
+  length = None;
+  width = None;
+  cond = None;
+  vercond = None;
+  since = None;
+  until = None;
+  user = None;
+  bs = None;
+  only = None;
+  exclude = None;
 }
 
 abbrev named : Name → Option Formula
@@ -56,21 +68,25 @@ places =
 -- a row of rows, whose lengths are bytes before it
 abbrev ragged : Declaration
 ragged = record {
-  name = codes "Ragged"; what = Block None false; fields =
-    field (codes "Num Widths") (codes "byte")
-    ∷ record (field (codes "Widths") (codes "byte")) { length = named (codes "Num Widths") }
-    ∷ field (codes "Num Rows") (codes "byte")
-    ∷ record (field (codes "Rows") (codes "byte")) { length = named (codes "Num Rows"); width = named (codes "Widths") }
-    ∷ []
+  name = codes "Ragged";
+  what = Block None false;
+  fields =
+      field (codes "Num Widths") (codes "byte")
+      ∷ record (field (codes "Widths") (codes "byte")) { length = named (codes "Num Widths") }
+      ∷ field (codes "Num Rows") (codes "byte")
+      ∷ record (field (codes "Rows") (codes "byte")) { length = named (codes "Num Rows"); width = named (codes "Widths") }
+      ∷ [];
 }
 
 -- a struct that holds itself
 abbrev volume : Declaration
 volume = record {
-  name = codes "Volume"; what = Struct; fields =
-    field (codes "Kind") (codes "uint")
-    ∷ record (field (codes "Inner") (codes "Volume")) { cond = equal (Path (codes "Kind" ∷ [])) 1 }
-    ∷ []
+  name = codes "Volume";
+  what = Struct;
+  fields =
+      field (codes "Kind") (codes "uint")
+      ∷ record (field (codes "Inner") (codes "Volume")) { cond = equal (Path (codes "Kind" ∷ [])) 1 }
+      ∷ [];
 }
 
 abbrev hollow : Declaration
@@ -83,36 +99,44 @@ holder = record { name = codes "Holder"; what = Block None false; fields = field
 -- many items of no bytes
 abbrev hollows : Declaration
 hollows = record {
-  name = codes "Hollows"; what = Block None false; fields =
-    field (codes "Count") (codes "uint64")
-    ∷ record (field (codes "Items") (codes "Hollow")) { length = named (codes "Count") }
-    ∷ []
+  name = codes "Hollows";
+  what = Block None false;
+  fields =
+      field (codes "Count") (codes "uint64")
+      ∷ record (field (codes "Items") (codes "Hollow")) { length = named (codes "Count") }
+      ∷ [];
 }
 
 -- generic structs, one in another, with an argument
 abbrev key : Declaration
 key = record {
-  name = codes "Key"; what = Struct; fields =
-    field (codes "Time") (codes "float")
-    ∷ field (codes "Value") (codes "#T#")
-    ∷ record (field (codes "Forward") (codes "#T#")) { cond = equal Arg 2 }
-    ∷ []
+  name = codes "Key";
+  what = Struct;
+  fields =
+      field (codes "Time") (codes "float")
+      ∷ field (codes "Value") (codes "#T#")
+      ∷ record (field (codes "Forward") (codes "#T#")) { cond = equal Arg 2 }
+      ∷ [];
 }
 
 abbrev keys : Declaration
 keys = record {
-  name = codes "Keys"; what = Struct; fields =
-    field (codes "Num Keys") (codes "uint")
-    ∷ record (field (codes "Keys") (codes "Key")) { template = Some (codes "#T#"); arg = Some (Read Arg); length = named (codes "Num Keys") }
-    ∷ []
+  name = codes "Keys";
+  what = Struct;
+  fields =
+      field (codes "Num Keys") (codes "uint")
+      ∷ record (field (codes "Keys") (codes "Key")) { template = Some (codes "#T#"); arg = Some (Read Arg); length = named (codes "Num Keys") }
+      ∷ [];
 }
 
 abbrev motion : Declaration
 motion = record {
-  name = codes "Motion"; what = Block None false; fields =
-    field (codes "Kind") (codes "uint")
-    ∷ record (field (codes "Keys") (codes "Keys")) { template = Some (codes "float"); arg = named (codes "Kind") }
-    ∷ []
+  name = codes "Motion";
+  what = Block None false;
+  fields =
+      field (codes "Kind") (codes "uint")
+      ∷ record (field (codes "Keys") (codes "Keys")) { template = Some (codes "float"); arg = named (codes "Kind") }
+      ∷ [];
 }
 
 -- a bitfield whose members are asked for
@@ -120,49 +144,59 @@ abbrev flags : Declaration
 flags = record {
   name = codes "Flags";
   what = Stored (Some (codes "uint")) (record { name = codes "Low"; pos = 0; width = 4; bad = false } ∷ record { name = codes "High"; pos = 28; width = 4; bad = false } ∷ []);
-  fields = []
+  fields = [];
 }
 
 abbrev pair : Declaration
 pair = record {
-  name = codes "Pair"; what = Struct; fields =
-    field (codes "A") (codes "#T#")
-    ∷ record (field (codes "B") (codes "#T#")) { cond = equal Arg 2 }
-    ∷ []
+  name = codes "Pair";
+  what = Struct;
+  fields =
+      field (codes "A") (codes "#T#")
+      ∷ record (field (codes "B") (codes "#T#")) { cond = equal Arg 2 }
+      ∷ [];
 }
 
 abbrev bits : Declaration
 bits = record {
-  name = codes "Bits"; what = Block None false; fields =
-    field (codes "Flags") (codes "Flags")
-    ∷ record (field (codes "Tail") (codes "byte")) { length = within (codes "Flags") (codes "High") }
-    ∷ record (field (codes "Pair") (codes "Pair")) {
-        template = Some (codes "uint"); arg = within (codes "Flags") (codes "Low");
-        since = Some (bound.Read (record { number = 0x04000002 })); user = Some (exact.Is 0)
+  name = codes "Bits";
+  what = Block None false;
+  fields =
+      field (codes "Flags") (codes "Flags")
+      ∷ record (field (codes "Tail") (codes "byte")) { length = within (codes "Flags") (codes "High") }
+      ∷ record (field (codes "Pair") (codes "Pair")) {
+        template = Some (codes "uint");
+        arg = within (codes "Flags") (codes "Low");
+        since = Some (bound.Read (record { number = 0x04000002 }));
+        user = Some (exact.Is 0);
       }
-    ∷ []
+      ∷ [];
 }
 
 -- a name that stands three times
 abbrev thrice : Declaration
 thrice = record {
-  name = codes "Thrice"; what = Block None false; fields =
-    field (codes "Size") (codes "byte")
-    ∷ field (codes "Size") (codes "byte")
-    ∷ record (field (codes "Size") (codes "byte")) { cond = Some (Read (Number 0)) }
-    ∷ record (field (codes "Tail") (codes "byte")) { length = named (codes "Size"); until = Some (bound.Read (record { number = 0x04000002 })) }
-    ∷ []
+  name = codes "Thrice";
+  what = Block None false;
+  fields =
+      field (codes "Size") (codes "byte")
+      ∷ field (codes "Size") (codes "byte")
+      ∷ record (field (codes "Size") (codes "byte")) { cond = Some (Read (Number 0)) }
+      ∷ record (field (codes "Tail") (codes "byte")) { length = named (codes "Size"); until = Some (bound.Read (record { number = 0x04000002 })) }
+      ∷ [];
 }
 
 -- places of blocks and of strings, and a line
 abbrev links : Declaration
 links = record {
-  name = codes "Links"; what = Block None false; fields =
-    record (field (codes "Next") (codes "Ref")) { template = Some (codes "Thrice") }
-    ∷ field (codes "Last") (codes "Ref")
-    ∷ field (codes "Label") (codes "NiFixedString")
-    ∷ field (codes "Note") (codes "LineString")
-    ∷ []
+  name = codes "Links";
+  what = Block None false;
+  fields =
+      record (field (codes "Next") (codes "Ref")) { template = Some (codes "Thrice") }
+      ∷ field (codes "Last") (codes "Ref")
+      ∷ field (codes "Label") (codes "NiFixedString")
+      ∷ field (codes "Note") (codes "LineString")
+      ∷ [];
 }
 
 abbrev schema : Schema
@@ -192,17 +226,66 @@ ragged_node = node.Group (row (byte 1 ∷ node.Bytes (2 ∷ []) ∷ byte 3 ∷ n
 
 ragged_spelled : Spells schema context 64 4 None 0 ragged_node (1 ∷ 2 ∷ 3 ∷ 0xAA ∷ 0xBB ∷ [])
 unfolding parent by_name is_own_template
-ragged_spelled =
-    ((_, refl,
-      (_, _, refl, (1, refl, lit< tt), (refl,
-      (_, _, refl, (2 ∷ [], refl, refl, (lit< tt, tt)), (refl,
-      (_, _, refl, (3, refl, lit< tt), (refl,
-      (_, _, refl, (ragged_rows, refl,
-          (_, _, refl, (0xAA ∷ 0xBB ∷ [], refl, refl, (lit< tt, (lit< tt, tt))),
-          (_, _, refl, ([], refl, refl, tt),
-          (_, _, refl, ([], refl, refl, tt), refl)))), (refl,
-      refl))))))))),
-     refl)
+ragged_spelled = (
+  (
+    _,
+    refl,
+    (
+      _,
+      _,
+      refl,
+      (1, refl, lit< tt),
+      (
+        refl,
+        (
+          _,
+          _,
+          refl,
+          (2 ∷ [], refl, refl, (lit< tt, tt)),
+          (
+            refl,
+            (
+              _,
+              _,
+              refl,
+              (3, refl, lit< tt),
+              (
+                refl,
+                (
+                  _,
+                  _,
+                  refl,
+                  (
+                    ragged_rows,
+                    refl,
+                    (
+                      _,
+                      _,
+                      refl,
+                      (0xAA ∷ 0xBB ∷ [], refl, refl, (lit< tt, (lit< tt, tt))),
+                      (
+                        _,
+                        _,
+                        refl,
+                        ([], refl, refl, tt),
+                        (_, _, refl, ([], refl, refl, tt), refl),
+                      ),
+                    ),
+                  ),
+                  (
+                    refl,
+                    refl,
+                  ),
+                ),
+              ),
+            ),
+          ),
+        ),
+      ),
+    ),
+  ),
+  refl,
+)
 
 ragged_nodes : nodes ragged_node ≡ 8
 ragged_nodes = refl
@@ -214,17 +297,80 @@ two_node = node.Group (row (word 2 ∷ node.Group (row (word 1 ∷ node.Row (row
 
 two_spelled : Spells schema context 64 10 None 0 two_node (2 ∷ 0 ∷ 0 ∷ 0 ∷ 1 ∷ 0 ∷ 0 ∷ 0 ∷ 5 ∷ 0 ∷ 0 ∷ 0 ∷ 6 ∷ 0 ∷ 0 ∷ 0 ∷ 7 ∷ 0 ∷ 0 ∷ 0 ∷ [])
 unfolding parent by_name is_own_template
-two_spelled =
-    ((_, refl,
-      (_, _, refl, (2, refl, lit< tt), (refl,
-      (_, _, refl, (_, refl,
-        (_, _, refl, (1, refl, lit< tt), (refl,
-        (_, _, refl, (_, refl,
-          (_, _, refl, (_, refl,
-            (_, _, refl, (5, refl, lit< tt), (refl,
-            (_, _, refl, (6, refl, lit< tt), (refl,
-            (_, _, refl, (7, refl, lit< tt), (refl, refl))))))), refl)), (refl, refl))))), (refl, refl))))),
-     refl)
+two_spelled = (
+  (
+    _,
+    refl,
+    (
+      _,
+      _,
+      refl,
+      (2, refl, lit< tt),
+      (
+        refl,
+        (
+          _,
+          _,
+          refl,
+          (
+            _,
+            refl,
+            (
+              _,
+              _,
+              refl,
+              (1, refl, lit< tt),
+              (
+                refl,
+                (
+                  _,
+                  _,
+                  refl,
+                  (
+                    _,
+                    refl,
+                    (
+                      _,
+                      _,
+                      refl,
+                      (
+                        _,
+                        refl,
+                        (
+                          _,
+                          _,
+                          refl,
+                          (5, refl, lit< tt),
+                          (
+                            refl,
+                            (
+                              _,
+                              _,
+                              refl,
+                              (6, refl, lit< tt),
+                              (
+                                refl,
+                                (_, _, refl, (7, refl, lit< tt), (refl, refl)),
+                              ),
+                            ),
+                          ),
+                        ),
+                      ),
+                      refl,
+                    ),
+                  ),
+                  (refl, refl),
+                ),
+              ),
+            ),
+          ),
+          (refl, refl),
+        ),
+      ),
+    ),
+  ),
+  refl,
+)
 
 -- and without it, since the argument is 1
 abbrev one_node : Node
@@ -232,17 +378,80 @@ one_node = node.Group (row (word 1 ∷ node.Group (row (word 1 ∷ node.Row (row
 
 one_spelled : Spells schema context 64 10 None 0 one_node (1 ∷ 0 ∷ 0 ∷ 0 ∷ 1 ∷ 0 ∷ 0 ∷ 0 ∷ 5 ∷ 0 ∷ 0 ∷ 0 ∷ 6 ∷ 0 ∷ 0 ∷ 0 ∷ [])
 unfolding parent by_name is_own_template
-one_spelled =
-    ((_, refl,
-      (_, _, refl, (1, refl, lit< tt), (refl,
-      (_, _, refl, (_, refl,
-        (_, _, refl, (1, refl, lit< tt), (refl,
-        (_, _, refl, (_, refl,
-          (_, _, refl, (_, refl,
-            (_, _, refl, (5, refl, lit< tt), (refl,
-            (_, _, refl, (6, refl, lit< tt), (refl,
-            (_, refl, (refl, refl))))))), refl)), (refl, refl))))), (refl, refl))))),
-     refl)
+one_spelled = (
+  (
+    _,
+    refl,
+    (
+      _,
+      _,
+      refl,
+      (1, refl, lit< tt),
+      (
+        refl,
+        (
+          _,
+          _,
+          refl,
+          (
+            _,
+            refl,
+            (
+              _,
+              _,
+              refl,
+              (1, refl, lit< tt),
+              (
+                refl,
+                (
+                  _,
+                  _,
+                  refl,
+                  (
+                    _,
+                    refl,
+                    (
+                      _,
+                      _,
+                      refl,
+                      (
+                        _,
+                        refl,
+                        (
+                          _,
+                          _,
+                          refl,
+                          (5, refl, lit< tt),
+                          (
+                            refl,
+                            (
+                              _,
+                              _,
+                              refl,
+                              (6, refl, lit< tt),
+                              (
+                                refl,
+                                (_, refl, (refl, refl)),
+                              ),
+                            ),
+                          ),
+                        ),
+                      ),
+                      refl,
+                    ),
+                  ),
+                  (refl, refl),
+                ),
+              ),
+            ),
+          ),
+          (refl, refl),
+        ),
+      ),
+    ),
+  ),
+  refl,
+)
 
 keys_nodes : (nodes two_node ≡ 9) × (nodes one_node ≡ 9)
 keys_nodes = (refl, refl)
@@ -254,14 +463,51 @@ bits_node = node.Group (row (word 0x30000002 ∷ node.Bytes (0xAA ∷ 0xBB ∷ 0
 
 bits_spelled : Spells schema context 64 13 None 0 bits_node (2 ∷ 0 ∷ 0 ∷ 0x30 ∷ 0xAA ∷ 0xBB ∷ 0xCC ∷ 1 ∷ 0 ∷ 0 ∷ 0 ∷ 2 ∷ 0 ∷ 0 ∷ 0 ∷ [])
 unfolding parent by_name is_own_template
-bits_spelled =
-    ((_, refl,
-      (_, _, refl, (0x30000002, refl, lit< tt), (refl,
-      (_, _, refl, (_, refl, refl, (lit< tt, (lit< tt, (lit< tt, tt)))), (refl,
-      (_, _, refl, (_, refl,
-        (_, _, refl, (1, refl, lit< tt), (refl,
-        (_, _, refl, (2, refl, lit< tt), (refl, refl))))), (refl, refl))))))),
-     refl)
+bits_spelled = (
+  (
+    _,
+    refl,
+    (
+      _,
+      _,
+      refl,
+      (0x30000002, refl, lit< tt),
+      (
+        refl,
+        (
+          _,
+          _,
+          refl,
+          (_, refl, refl, (lit< tt, (lit< tt, (lit< tt, tt)))),
+          (
+            refl,
+            (
+              _,
+              _,
+              refl,
+              (
+                _,
+                refl,
+                (
+                  _,
+                  _,
+                  refl,
+                  (1, refl, lit< tt),
+                  (
+                    refl,
+                    (_, _, refl, (2, refl, lit< tt), (refl, refl)),
+                  ),
+                ),
+              ),
+              (refl, refl),
+            ),
+          ),
+        ),
+      ),
+    ),
+  ),
+  refl,
+)
 
 bits_nodes : nodes bits_node ≡ 6
 bits_nodes = refl
@@ -277,13 +523,39 @@ thrice_node = node.Group (Here (byte 1) (Here (byte 3) (Absent (Here (node.Bytes
 
 thrice_spelled : Spells schema context 64 15 None 0 thrice_node (1 ∷ 3 ∷ 7 ∷ 8 ∷ 9 ∷ [])
 unfolding parent by_name is_own_template
-thrice_spelled =
-    ((_, refl,
-      (_, _, refl, (1, refl, lit< tt), (refl,
-      (_, _, refl, (3, refl, lit< tt), (refl,
-      (_, refl, (refl,
-      (_, _, refl, (_, refl, refl, (lit< tt, (lit< tt, (lit< tt, tt)))), (refl, refl))))))))),
-     refl)
+thrice_spelled = (
+  (
+    _,
+    refl,
+    (
+      _,
+      _,
+      refl,
+      (1, refl, lit< tt),
+      (
+        refl,
+        (
+          _,
+          _,
+          refl,
+          (3, refl, lit< tt),
+          (
+            refl,
+            (
+              _,
+              refl,
+              (
+                refl,
+                (_, _, refl, (_, refl, refl, (lit< tt, (lit< tt, (lit< tt, tt)))), (refl, refl)),
+              ),
+            ),
+          ),
+        ),
+      ),
+    ),
+  ),
+  refl,
+)
 
 -- an item of a run of bytes counts by the sign of its basic
 item_signs : (number_at_item true 0 (node.Bytes (0xFF ∷ [])) ≡ 0xFFFFFFFFFFFFFFFF) × (number_at_item false 0 (node.Bytes (0xFF ∷ [])) ≡ 0xFF)
@@ -299,13 +571,41 @@ links_node = node.Group (row (node.Ref true (Some 15) (Some 0) ∷ node.Ref true
 
 links_spelled : Spells schema big 64 16 None 0 links_node (0 ∷ 0 ∷ 0 ∷ 0 ∷ 0xFF ∷ 0xFF ∷ 0xFF ∷ 0xFF ∷ 0 ∷ 0 ∷ 0 ∷ 0 ∷ 0x41 ∷ 0x0A ∷ [])
 unfolding parent by_name is_own_template
-links_spelled =
-    ((_, refl,
-      (_, _, refl, (Some 0, refl, lit< tt), (refl,
-      (_, _, refl, (None, refl, tt), (refl,
-      (_, _, refl, (Some 0, refl, lit< tt), (refl,
-      (_, _, refl, (0x41 ∷ [], refl, (lit< tt, (λ e. cc), tt), lit≤ tt), (refl, refl))))))))),
-     refl)
+links_spelled = (
+  (
+    _,
+    refl,
+    (
+      _,
+      _,
+      refl,
+      (Some 0, refl, lit< tt),
+      (
+        refl,
+        (
+          _,
+          _,
+          refl,
+          (None, refl, tt),
+          (
+            refl,
+            (
+              _,
+              _,
+              refl,
+              (Some 0, refl, lit< tt),
+              (
+                refl,
+                (_, _, refl, (0x41 ∷ [], refl, (lit< tt, (λ e. cc), tt), lit≤ tt), (refl, refl)),
+              ),
+            ),
+          ),
+        ),
+      ),
+    ),
+  ),
+  refl,
+)
 
 -- a place of no block
 far_fails : Fails schema big 64 (kind_of schema big 16 None 0) (record { nodes = 16; place = 92; left = 1 ∷ 0 ∷ 0 ∷ 0 ∷ [] }) (RefRange 92 16777216)
@@ -346,9 +646,16 @@ volumes_fail zero p n rest w c = ap (λ q. TooDeep q) (omega arith)
 volumes_fail (suc k) p n rest w c =
     let same : p + 4 * suc k ≡ p + 4 + 4 * k = omega arith in
     let count : n + 1 + 1 + 2 * k ≤ most_nodes = omega arith in
-    inr (omega arith, inr (word 1, record { nodes = n + 1 + 1; place = p + 4; left = ones k rest }, (1, refl, lit< tt),
-      record { here = refl; place = refl; nodes = refl; within = omega arith; counted = omega arith },
-      inr (refl, inl (TooDeep (p + 4 * suc k), refl, rw same (volumes_fail k (p + 4) (n + 1 + 1) rest (omega arith) count)))))
+    inr (
+      omega arith,
+      inr (
+        word 1,
+        record { nodes = n + 1 + 1; place = p + 4; left = ones k rest },
+        (1, refl, lit< tt),
+        record { here = refl; place = refl; nodes = refl; within = omega arith; counted = omega arith },
+        inr (refl, inl (TooDeep (p + 4 * suc k), refl, rw same (volumes_fail k (p + 4) (n + 1 + 1) rest (omega arith) count))),
+      ),
+    )
 
 -- 63 words of 1 at place 63 of a file, with 16 nodes before them
 holder_fails : Fails schema context 64 (kind_of schema context 14 None 0) (record { nodes = 16; place = 63; left = ones 63 [] }) (TooDeep 315)
@@ -359,24 +666,35 @@ holder_fails = inr (lit< tt, inl (TooDeep 315, refl, volumes_fail 63 63 17 [] (l
 
 hollows_fail : (m n i p k : ℕ) (rest : List ℕ) → k + m ≡ most_nodes → p ≤ most_bytes → m < n
     → ItemsFail Little (λ i. FormShape schema context 63 (One (kind_of schema context 6 None 0))) (λ i. FormShapeFails schema context 63 (One (kind_of schema context 6 None 0))) i n
-        (record { nodes = k; place = p; left = rest }) (TooManyNodes p)
+    (record { nodes = k; place = p; left = rest }) (TooManyNodes p)
 unfolding parent by_name is_own_template
 hollows_fail m zero i p k rest e w l = absurd (omega arith)
 hollows_fail zero (suc n) i p k rest e w l = inl (TooManyNodes p, refl, inl (omega arith, refl))
 hollows_fail (suc m) (suc n) i p k rest e w l =
     let step : k + 1 + m ≡ most_nodes = omega arith in
-    inr (node.Group End, record { nodes = k + 1; place = p; left = rest }, (End, refl, refl),
-         record { here = refl; place = omega arith; nodes = refl; within = w; counted = omega arith },
-         hollows_fail m n (i + 1) p (k + 1) rest step w (omega arith))
+    inr (
+      node.Group End,
+      record { nodes = k + 1; place = p; left = rest },
+      (End, refl, refl),
+      record { here = refl; place = omega arith; nodes = refl; within = w; counted = omega arith },
+      hollows_fail m n (i + 1) p (k + 1) rest step w (omega arith),
+    )
 
 -- 2 ^ 40 items at place 63 of a file, with 16 nodes before them
 many_fail : Fails schema context 64 (kind_of schema context 7 None 0)
     (record { nodes = 16; place = 63; left = 0 ∷ 0 ∷ 0 ∷ 0 ∷ 0 ∷ 1 ∷ 0 ∷ 0 ∷ 0 ∷ 0 ∷ 0 ∷ 0 ∷ [] }) (TooManyNodes 71)
 unfolding parent by_name is_own_template
 many_fail =
-    inr (lit< tt, inr (node.Num 8 false 1099511627776, record { nodes = 18; place = 71; left = 0 ∷ 0 ∷ 0 ∷ 0 ∷ [] }, (1099511627776, refl, lit< tt),
-      record { here = refl; place = refl; nodes = refl; within = lit≤ tt; counted = lit≤ tt },
-      inr (refl, inl (TooManyNodes 71, refl, inr (lit< tt, hollows_fail 16777197 1099511627776 0 71 19 (0 ∷ 0 ∷ 0 ∷ 0 ∷ []) refl (lit≤ tt) (lit< tt))))))
+    inr (
+      lit< tt,
+      inr (
+        node.Num 8 false 1099511627776,
+        record { nodes = 18; place = 71; left = 0 ∷ 0 ∷ 0 ∷ 0 ∷ [] },
+        (1099511627776, refl, lit< tt),
+        record { here = refl; place = refl; nodes = refl; within = lit≤ tt; counted = lit≤ tt },
+        inr (refl, inl (TooManyNodes 71, refl, inr (lit< tt, hollows_fail 16777197 1099511627776 0 71 19 (0 ∷ 0 ∷ 0 ∷ 0 ∷ []) refl (lit≤ tt) (lit< tt)))),
+      ),
+    )
 
 -- two of them are read
 two_hollows : Node
@@ -384,8 +702,20 @@ two_hollows = node.Group (row (node.Num 8 false 2 ∷ node.Row (row (node.Group 
 
 two_hollows_spelled : Spells schema context 64 7 None 0 two_hollows (2 ∷ 0 ∷ 0 ∷ 0 ∷ 0 ∷ 0 ∷ 0 ∷ 0 ∷ [])
 unfolding parent by_name is_own_template two_hollows
-two_hollows_spelled =
-    ((_, refl,
-      (_, _, refl, (2, refl, lit< tt), (refl,
-      (_, _, refl, (_, refl, (_, _, refl, (End, refl, refl), (_, _, refl, (End, refl, refl), refl))), (refl, refl))))),
-     refl)
+two_hollows_spelled = (
+  (
+    _,
+    refl,
+    (
+      _,
+      _,
+      refl,
+      (2, refl, lit< tt),
+      (
+        refl,
+        (_, _, refl, (_, refl, (_, _, refl, (End, refl, refl), (_, _, refl, (End, refl, refl), refl))), (refl, refl)),
+      ),
+    ),
+  ),
+  refl,
+)

@@ -31,7 +31,7 @@ form_excludes order V F cancels each (Row n item) node at next f ha p bad =
     let p' : Passes (texts order ha.0) (1 + nodes_in ha.0) at next = rw ha.1 at p in
     counted_excludes (λ f. f) (ItemsFail order (λ i. IsForm V (item i)) (λ i. FormFails order V F (item i)) 0 n) (texts order ha.0) (nodes_in ha.0) at next f
     (λ q w. items_exclude order (λ i. IsForm V (item i)) (λ i. FormFails order V F (item i))
-        (λ i. form_cancel order V V cancels (item i)) (λ i. form_excludes order V F cancels each (item i)) 0 n ha.0 (one_more at) next f ha.2 q w) p' bad
+    (λ i. form_cancel order V V cancels (item i)) (λ i. form_excludes order V F cancels each (item i)) 0 n ha.0 (one_more at) next f ha.2 q w) p' bad
 
 pub form_one : (order : Order) (V : Kind → Node → Type 0) (F : Kind → Point → Fault → Type 0)
     → ((k : Kind) → Cancels order (V k) (V k)) → ((k : Kind) → Excludes order (V k) (F k)) → ((k : Kind) → OneFault (F k))
@@ -42,8 +42,8 @@ form_one order V F cancels each one (Run n) at f g a b =
 form_one order V F cancels each one (Row n item) at f g a b =
     counted_one (λ f. f) (ItemsFail order (λ i. IsForm V (item i)) (λ i. FormFails order V F (item i)) 0 n)
     (items_one order (λ i. IsForm V (item i)) (λ i. FormFails order V F (item i))
-        (λ i. form_cancel order V V cancels (item i)) (λ i. form_excludes order V F cancels each (item i))
-        (λ i. form_one order V F cancels each one (item i)) 0 n) at f g a b
+    (λ i. form_cancel order V V cancels (item i)) (λ i. form_excludes order V F cancels each (item i))
+    (λ i. form_one order V F cancels each one (item i)) 0 n) at f g a b
 
 pub group_excludes : (S : Schema) (C : Context) (V : Kind → Node → Type 0) (F : Kind → Point → Fault → Type 0)
     → ((k : Kind) → Cancels C.order (V k) (V k)) → ((k : Kind) → Excludes C.order (V k) (F k))
@@ -52,12 +52,12 @@ group_excludes S C V F cancels each fields template arg node at next f ha p bad 
     let p' : Passes (texts C.order ha.0) (1 + nodes_in ha.0) at next = rw ha.1 at p in
     counted_excludes (λ f. f) (GroupFails S C V F fields template arg) (texts C.order ha.0) (nodes_in ha.0) at next f
     (λ q w.
-        let P : List ℕ → Type 0 = λ s. Passes s (nodes_in ha.0) (one_more at) next in
-        let q' : Passes (fields_text (λ E. C.order) fields [] ha.0) (nodes_in ha.0) (one_more at) next =
-            subst P (sym (same_text C.order (present S C arg) (λ E f. IsForm V (form_of S C template arg E f)) (no_check {Why = Fault}) fields [] ha.0 ha.2)) q in
-        fields_exclude (λ f. f) (λ E. C.order) (present S C arg) (λ E f. IsForm V (form_of S C template arg E f)) (λ E f. FormFails C.order V F (form_of S C template arg E f)) no_check
-        (λ E f. form_cancel C.order V V cancels (form_of S C template arg E f)) (λ E f. form_excludes C.order V F cancels each (form_of S C template arg E f))
-        fields [] ha.0 (one_more at) next f ha.2 q' w) p' bad
+    let P : List ℕ → Type 0 = λ s. Passes s (nodes_in ha.0) (one_more at) next in
+    let q' : Passes (fields_text (λ E. C.order) fields [] ha.0) (nodes_in ha.0) (one_more at) next =
+    subst P (sym (same_text C.order (present S C arg) (λ E f. IsForm V (form_of S C template arg E f)) (no_check {Why = Fault}) fields [] ha.0 ha.2)) q in
+    fields_exclude (λ f. f) (λ E. C.order) (present S C arg) (λ E f. IsForm V (form_of S C template arg E f)) (λ E f. FormFails C.order V F (form_of S C template arg E f)) no_check
+    (λ E f. form_cancel C.order V V cancels (form_of S C template arg E f)) (λ E f. form_excludes C.order V F cancels each (form_of S C template arg E f))
+    fields [] ha.0 (one_more at) next f ha.2 q' w) p' bad
 
 pub group_one : (S : Schema) (C : Context) (V : Kind → Node → Type 0) (F : Kind → Point → Fault → Type 0)
     → ((k : Kind) → Cancels C.order (V k) (V k)) → ((k : Kind) → Excludes C.order (V k) (F k)) → ((k : Kind) → OneFault (F k))
@@ -65,8 +65,8 @@ pub group_one : (S : Schema) (C : Context) (V : Kind → Node → Type 0) (F : K
 group_one S C V F cancels each one fields template arg =
     counted_one (λ f. f) (GroupFails S C V F fields template arg)
     (fields_one (λ f. f) (λ E. C.order) (present S C arg) (λ E f. IsForm V (form_of S C template arg E f)) (λ E f. FormFails C.order V F (form_of S C template arg E f)) no_check
-        (λ E f. form_cancel C.order V V cancels (form_of S C template arg E f)) (λ E f. form_excludes C.order V F cancels each (form_of S C template arg E f))
-        (λ E f. form_one C.order V F cancels each one (form_of S C template arg E f)) fields [])
+    (λ E f. form_cancel C.order V V cancels (form_of S C template arg E f)) (λ E f. form_excludes C.order V F cancels each (form_of S C template arg E f))
+    (λ E f. form_one C.order V F cancels each one (form_of S C template arg E f)) fields [])
 
 pub shape_excludes : (S : Schema) (C : Context) → Fits C → (d : ℕ) (kind : Kind) → Excludes C.order (Shape S C d kind) (Fails S C d kind)
 shape_excludes S C fits d (Number width little) node at next f ha p bad = leaf_excludes C fits (Number width little) node at next f ha p bad

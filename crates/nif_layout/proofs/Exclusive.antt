@@ -4,9 +4,9 @@ use Rattle.nif_base.specs.declared.orders.Order.{Order}
 use Rattle.nif_base.specs.Node.{Node, Members, text, texts, nodes, nodes_in}
 use Rattle.nif_schema.specs.Declaration.{Field}
 use Rattle.nif_layout.specs.Earlier.{Env, behind}
-use Rattle.nif_layout.specs.Fault.{Fault, TooManyNodes, Point, Passes, Reads, one_more, most_nodes}
+use Rattle.nif_layout.specs.Fault.{Fault, Point, Passes, Reads, one_more, most_nodes}
 use Rattle.nif_layout.specs.Members.{Member, Check, Fields, Items, member_text, fields_text}
-use Rattle.nif_layout.specs.Fails.{Counted, Lifted, MemberFails, FieldsFail, ItemsFail}
+use Rattle.nif_layout.specs.Fails.{Counted, MemberFails, FieldsFail, ItemsFail}
 use Rattle.nif_layout.proofs.Cancel.{in_one_order, Cancels}
 use Rattle.nif_layout.proofs.Passing.{split, count_in, one_point}
 
@@ -110,7 +110,7 @@ fields_exclude by_fault order here V F check cancels each [] E a at next w ha p 
 fields_exclude by_fault order here V F check cancels each (f ∷ fields) E a at next w ha p bad =
     member_excludes by_fault (order E) (λ got. fields_text order fields (behind f got E)) (here E f) (V E f) (F E f) _ _ (cancels E f) (each E f)
     (λ got. refused_excludes (check E f got) (fields_text order fields (behind f got E)) (Fields here V check fields (behind f got E)) (FieldsFail by_fault order here V F check fields (behind f got E))
-        (fields_exclude by_fault order here V F check cancels each fields (behind f got E))) a at next w ha p bad
+    (fields_exclude by_fault order here V F check cancels each fields (behind f got E))) a at next w ha p bad
 
 pub fields_one : {Why : Type 0} (by_fault : Fault → Why) (order : Env → Order) (here : Env → Field → Bool) (V : Env → Field → Node → Type 0) (F : Env → Field → Point → Fault → Type 0) (check : Check Why)
     → ((E : Env) (f : Field) → Cancels (order E) (V E f) (V E f)) → ((E : Env) (f : Field) → Excludes (order E) (V E f) (F E f))
@@ -120,7 +120,7 @@ fields_one by_fault order here V F check cancels each one [] E at v w a b = absu
 fields_one by_fault order here V F check cancels each one (f ∷ fields) E at v w a b =
     member_one by_fault (order E) (here E f) (V E f) (F E f) _ (cancels E f) (each E f) (one E f)
     (λ got. refused_one (check E f got) (FieldsFail by_fault order here V F check fields (behind f got E))
-        (fields_one by_fault order here V F check cancels each one fields (behind f got E))) at v w a b
+    (fields_one by_fault order here V F check cancels each one fields (behind f got E))) at v w a b
 
 pub items_exclude : (order : Order) (V : ℕ → Node → Type 0) (F : ℕ → Point → Fault → Type 0)
     → ((i : ℕ) → Cancels order (V i) (V i)) → ((i : ℕ) → Excludes order (V i) (F i))
@@ -129,7 +129,7 @@ items_exclude order V F cancels each i zero a at next f ha p bad = bad
 items_exclude order V F cancels each i (suc n) a at next f ha p bad =
     one_order_excludes order (Items V i (suc n)) (ItemsFail order V F i (suc n))
     (member_excludes (λ f. f) order (λ got. texts order) true (V i) (F i) (λ got. Items V (i + 1) n) (λ got. ItemsFail order V F (i + 1) n) (cancels i) (each i)
-        (λ got. items_exclude order V F cancels each (i + 1) n)) a at next f ha p bad
+    (λ got. items_exclude order V F cancels each (i + 1) n)) a at next f ha p bad
 
 pub items_one : (order : Order) (V : ℕ → Node → Type 0) (F : ℕ → Point → Fault → Type 0)
     → ((i : ℕ) → Cancels order (V i) (V i)) → ((i : ℕ) → Excludes order (V i) (F i)) → ((i : ℕ) → OneFault (F i))

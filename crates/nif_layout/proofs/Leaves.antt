@@ -72,7 +72,7 @@ place_no_fault little most place at next n fault h b p =
     let len : length s ≡ 4 = length_number little 4 (place_or_none place) in
     let short : shortage 4 at ≡ None = rw len at (no_shortage s n at next p) in
     let v : number_at little 4 at.left ≡ place_or_none place =
-        ap (λ l. number_at little 4 l) p.here ∙ number_again little 4 (place_or_none place) next.left (place_fits most place h b) in
+    ap (λ l. number_at little 4 l) p.here ∙ number_again little 4 (place_or_none place) next.left (place_fits most place h b) in
     ap₂ or_else short (ap (λ x. range_fault most x fault) v ∙ in_range most place fault h b)
 
 pub line_no_fault : (line : List ℕ) (at next : Point) (n : ℕ) → AreInLine line → length line ≤ 255 → Passes (line ++ 0x0A ∷ []) n at next
@@ -82,7 +82,7 @@ line_no_fault line at next n h l p =
     let short : shortage (suc (length line)) at ≡ None = rw len at (no_shortage (line ++ 0x0A ∷ []) n at next p) in
     let fits : length line < 256 = omega arith in
     let found : newline 256 at.left ≡ Some (length line) =
-        ap (λ s. newline 256 s) (p.here ∙ append_assoc line (0x0A ∷ []) next.left) ∙ newline_at 256 line next.left h fits in
+    ap (λ s. newline 256 s) (p.here ∙ append_assoc line (0x0A ∷ []) next.left) ∙ newline_at 256 line next.left h fits in
     let P : Option ℕ → Type 0 = λ o. or_else (shortage (line_needs o) at) (line_fault o at.place) ≡ None in
     subst P (sym found) (ap (λ x. or_else x None) short)
 

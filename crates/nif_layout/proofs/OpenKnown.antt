@@ -1,9 +1,8 @@
 -- An open type has values all the way down.
-use Rattle.std.proofs.Common.{◌≡◌, ℕ, zero, suc, ◌<◌, ◌⊎◌, inl, inr, Bool, true, false, ◌&&◌, ◌||◌, if◌then◌else◌, is_none, Option, Some, None, List, [], ◌∷◌, ◌++◌, length, slice_get, slice_index_or, option_and_then, refl, sym, ◌∙◌, ap, subst, true≢false, arith}
+use Rattle.std.proofs.Common.{◌≡◌, ℕ, zero, suc, ◌<◌, inl, inr, Bool, true, false, ◌&&◌, if◌then◌else◌, is_none, Option, Some, None, List, [], ◌∷◌, ◌++◌, length, slice_get, slice_index_or, option_and_then, refl, sym, ◌∙◌, ap, subst, true≢false, arith}
 use Rattle.std.specs.Option.{option_map, option_map_or}
 use Rattle.std.specs.Prelude.{Contains, option_to_list, flat_map}
 use Rattle.std.specs.List.{list_any}
-use Rattle.std.proofs.lemmas.List.Elements.{Contains-append_left}
 use Rattle.nif_schema.specs.Declaration.{Name, Field, Declaration, inherited, is_block}
 use Rattle.nif_schema.specs.Schema.{Schema, find, find_block, has_block, parent, fields_of, line, line_within}
 use Rattle.nif_schema.specs.Uses.{is_own_template, what_at, is_struct, takes_template, is_generic, uses_of_field, uses, Here}
@@ -15,14 +14,14 @@ use Rattle.nif_schema.specs.declared.decls.What.{What}
 use Rattle.nif_schema.specs.declared.decls.What.TheVariants.{Basic, Stored, Struct, Block}
 use Rattle.nif_layout.specs.Context.{Context}
 use Rattle.nif_layout.specs.Earlier.{Env}
-use Rattle.nif_layout.specs.PathValue.{leaf_of, basic_leaf}
+use Rattle.nif_layout.specs.PathValue.{basic_leaf}
 use Rattle.nif_layout.specs.Kind.{Kind, Unknown, Group, kind_of_leaf, kind_of_what, kind_of}
 use Rattle.nif_layout.specs.Present.{formula_value}
-use Rattle.nif_layout.specs.Form.{width_at, is_run, Form, replaced, row_of, sized, field_kind, form_of}
+use Rattle.nif_layout.specs.Form.{width_at, is_run, replaced, row_of, sized, field_kind, form_of}
 use Rattle.nif_layout.specs.Laws.{IsOpenType, HasTemplate}
 use Rattle.nif_layout.proofs.Decide.{EachField}
 use Rattle.nif_layout.proofs.DecideShapes.{KnownForm, Known}
-use Rattle.nif_layout.proofs.OpenTypes.{each_map, each_both, each_append, each_any, or_left, or_right, open_used, declared, OwnFacts, own_facts, FieldGood, TemplateGood, fields_good}
+use Rattle.nif_layout.proofs.OpenTypes.{each_map, each_both, each_append, each_any, or_left, or_right, open_used, declared, own_facts, FieldGood, TemplateGood, fields_good}
 
 -- ---- the line of an open type
 
@@ -34,20 +33,25 @@ parent_is_block S n p d e h = by d.what refl
   where
     at : option_and_then (find_block S) (inherited d.what) ≡ Some p
     at = let P : Option Declaration → Type 0 = λ x. option_and_then (find_block S) (option_and_then (λ (d : Declaration). inherited d.what) x) ≡ Some p in subst P e h
+
     block : (w : What) → is_block w ≡ true → is_struct w ≡ false
     block (Basic own) b = refl
     block (Stored storage members) b = refl
     block Struct b = absurd (true≢false (sym b))
     block (Block above abstract) b = refl
+
     there : (x : Option Declaration) → slice_get S p ≡ x → option_map_or (λ (d : Declaration). is_block d.what) x false ≡ true → (up : Declaration) × (slice_get S p ≡ Some up) × (is_struct up.what ≡ false)
     there None ex b = absurd (true≢false (sym b))
     there (Some up) ex b = (up, ex, block up.what b)
+
     found : (b : Bool) (m : ℕ) → has_block S m ≡ b → (if b then Some m else None) ≡ Some p → has_block S p ≡ true
     found true m eb q = let same : m ≡ p = cc in subst (λ (k : ℕ). has_block S k ≡ true) same eb
     found false m eb q = absurd (cc)
+
     named : (o : Option ℕ) → option_and_then (λ number. if has_block S number then Some number else None) o ≡ Some p → has_block S p ≡ true
     named None q = absurd (cc)
     named (Some m) q = found (has_block S m) m refl q
+
     by : (w : What) → d.what ≡ w → (is_struct d.what ≡ false) × ((up : Declaration) × (slice_get S p ≡ Some up) × (is_struct up.what ≡ false))
     by (Basic own) ew = let q : option_and_then (find_block S) (inherited (Basic own)) ≡ Some p = subst (λ (w : What). option_and_then (find_block S) (inherited w) ≡ Some p) ew at in absurd (cc)
     by (Stored storage members) ew = let q : option_and_then (find_block S) (inherited (Stored storage members)) ≡ Some p = subst (λ (w : What). option_and_then (find_block S) (inherited w) ≡ Some p) ew at in absurd (cc)
@@ -71,9 +75,9 @@ generic_by_field : (S : Schema) (n : ℕ) (d : Declaration) → slice_get S n �
     → EachField (λ f. is_struct d.what ≡ true → takes_template f ≡ true → is_generic S n ≡ true) d.fields
 generic_by_field S n d e =
     each_map (λ f h s t.
-      let P : Option Declaration → Type 0 = λ x. option_map_or (λ (d : Declaration). is_struct d.what && list_any takes_template d.fields) x false ≡ true in
-      let Q : Bool → Type 0 = λ b. (b && list_any takes_template d.fields) ≡ true in
-      subst P (sym e) (subst Q (sym s) (h t))) d.fields (each_any takes_template d.fields)
+    let P : Option Declaration → Type 0 = λ x. option_map_or (λ (d : Declaration). is_struct d.what && list_any takes_template d.fields) x false ≡ true in
+    let Q : Bool → Type 0 = λ b. (b && list_any takes_template d.fields) ≡ true in
+    subst P (sym e) (subst Q (sym s) (h t))) d.fields (each_any takes_template d.fields)
 
 line_good : (S : Schema) (most n : ℕ) (d : Declaration) → slice_get S n ≡ Some d → IsOpen S n → EachField (LineGood S n (is_struct d.what)) (line_within most S n)
 line_good S zero n d e o = tt
@@ -81,12 +85,14 @@ line_good S (suc most) n d e o = by (parent S n) refl (λ p up ep op. line_good 
   where
     L : Bool → Field → Type 0
     L b = LineGood S n b
+
     own : EachField (L (is_struct d.what)) (fields_of S n)
     own =
         let at : fields_of S n ≡ d.fields = ap (λ (x : Option Declaration). option_map_or (λ d. d.fields) x []) e in
         let P : List Field → Type 0 = λ fs. EachField (L (is_struct d.what)) fs in
         subst P (sym at) (each_both (FieldGood S (is_struct d.what)) (λ f. is_struct d.what ≡ true → takes_template f ≡ true → is_generic S n ≡ true) d.fields
-            (fields_good S n d e o) (generic_by_field S n d e))
+        (fields_good S n d e o) (generic_by_field S n d e))
+
     by : (x : Option ℕ) → parent S n ≡ x
         → ((p : ℕ) (up : Declaration) → slice_get S p ≡ Some up → IsOpen S p → EachField (LineGood S p (is_struct up.what)) (line_within most S p))
         → EachField (L (is_struct d.what)) (option_map_or (line_within most S) (parent S n) [] ++ fields_of S n)
@@ -100,7 +106,7 @@ line_good S (suc most) n d e o = by (parent S n) refl (λ p up ep op. line_good 
         let above = ih p up blocks.1.1 (open_used S n p o (uses_parent S n p ex)) in
         let of_block : EachField (LineGood S p false) (line_within most S p) = subst (λ (b : Bool). EachField (LineGood S p b) (line_within most S p)) blocks.1.2 above in
         let here : EachField (L false) (line_within most S p) =
-            each_map (λ f h. (h.0, λ s t. absurd (true≢false (sym s)))) (line_within most S p) of_block in
+        each_map (λ f h. (h.0, λ s t. absurd (true≢false (sym s)))) (line_within most S p) of_block in
         let here' : EachField (L (is_struct d.what)) (line_within most S p) = subst (λ (b : Bool). EachField (L b) (line_within most S p)) (sym blocks.0) here in
         subst P (sym ex) (each_append (L (is_struct d.what)) (line_within most S p) (fields_of S n) here' own)
 
@@ -131,8 +137,10 @@ field_known S C d in_struct template arg E f ih good hole = by good
   where
     inner : Option ℕ
     inner = option_and_then (replaced S template) f.template
+
     P : Option ℕ → Type 0
     P x = Known S C d (option_map_or (λ number. kind_of S C number inner (option_map_or (formula_value S C E arg) f.arg 0)) x Unknown)
+
     by : FieldGood S in_struct f → Known S C d (field_kind S C template arg E f)
     by (inl a) =
         let x = hole a.0 (or_left (is_own_template f.kind) (option_map_or is_own_template f.template false) a.1) in
@@ -141,7 +149,7 @@ field_known S C d in_struct template arg E f ih good hole = by good
     by (inr a) =
         let e : replaced S template f.kind ≡ Some a.0 = replaced_own S template f.kind false a.1 ∙ a.2 in
         subst P (sym e) (ih a.0 inner (option_map_or (formula_value S C E arg) f.arg 0) a.3 (λ g. template_known S in_struct template f.template (a.4 g)
-            (λ s t. hole s (or_right (is_own_template f.kind) (option_map_or is_own_template f.template false) t))))
+        (λ s t. hole s (or_right (is_own_template f.kind) (option_map_or is_own_template f.template false) t))))
 
 form_known : (S : Schema) (C : Context) (d : ℕ) (count : Option ℕ) (width : Option (ℕ → ℕ)) (run : Bool) (kind : Kind) → Known S C d kind → KnownForm (Known S C d) (sized count width run kind)
 form_known S C d None width run kind u = u
@@ -162,8 +170,8 @@ pub line_known : (S : Schema) (at : Env → Context) (d n : ℕ) (template : Opt
 line_known S at d n template arg ih o t =
     let x = declared S n o.0 in
     each_map (λ f h E. form_known S (at E) d (option_map (formula_value S (at E) E arg) f.length) (option_map (width_at S (at E) E arg) f.width)
-        (option_map_or (is_run S) (replaced S template f.kind) false) (field_kind S (at E) template arg E f)
-        (field_known S (at E) d (is_struct x.0.what) template arg E f (ih E) h.0 (λ s g. t (h.1 s g))))
+    (option_map_or (is_run S) (replaced S template f.kind) false) (field_kind S (at E) template arg E f)
+    (field_known S (at E) d (is_struct x.0.what) template arg E f (ih E) h.0 (λ s g. t (h.1 s g))))
     (line S n) (line_good S (length S) n x.0 x.1 o.1)
 
 -- A block type has no template and asks for none.
@@ -171,8 +179,8 @@ block_known : (S : Schema) (at : Env → Context) (d n : ℕ) (x : Declaration) 
     → EachField (λ f. (E : Env) → KnownForm (Known S (at E) d) (form_of S (at E) None 0 E f)) (line S n)
 block_known S at d n x e s ih o =
     each_map (λ f h E. form_known S (at E) d (option_map (formula_value S (at E) E 0) f.length) (option_map (width_at S (at E) E 0) f.width)
-        (option_map_or (is_run S) (replaced S None f.kind) false) (field_kind S (at E) None 0 E f)
-        (field_known S (at E) d (is_struct x.what) None 0 E f (ih E) h.0 (λ b g. absurd (true≢false (sym b ∙ s)))))
+    (option_map_or (is_run S) (replaced S None f.kind) false) (field_kind S (at E) None 0 E f)
+    (field_known S (at E) d (is_struct x.what) None 0 E f (ih E) h.0 (λ b g. absurd (true≢false (sym b ∙ s)))))
     (line S n) (line_good S (length S) n x e o)
 
 -- ---- types

@@ -1,16 +1,14 @@
 -- What the checker's reasons say of an open type: the types that its fields lead to are open, too.
-use Rattle.std.proofs.Common.{◌≡◌, ℕ, zero, suc, ◌<◌, ◌⊎◌, inl, inr, Bool, true, false, ◌&&◌, ◌||◌, not, if◌then◌else◌, is_some, is_none, Option, Some, None, List, [], ◌∷◌, ◌++◌, length, slice_get, bytes_eq, option_and_then, refl, sym, ◌∙◌, ap, subst, true≢false, arith, flat_map}
+use Rattle.std.proofs.Common.{◌≡◌, ℕ, zero, suc, ◌<◌, ◌⊎◌, inl, inr, Bool, true, false, ◌&&◌, ◌||◌, not, if◌then◌else◌, Option, Some, None, List, [], ◌∷◌, ◌++◌, length, slice_get, bytes_eq, option_and_then, refl, sym, ◌∙◌, ap, subst, true≢false, arith, flat_map}
 use Rattle.std.specs.Prelude.{Contains, option_to_list}
 use Rattle.std.specs.Option.{option_map_or}
 use Rattle.std.specs.List.{list_any}
 use Rattle.std.proofs.lemmas.List.Quantifiers.{position-Some}
 use Rattle.std.proofs.lemmas.List.Elements.{Contains-append_left, Contains-append_right}
-use Rattle.nif_schema.specs.Declaration.{Name, Field, Declaration, inherited, is_block}
-use Rattle.nif_schema.specs.Schema.{Schema, find, find_block, has_block, parent, fields_of, line, line_within}
-use Rattle.nif_schema.specs.Uses.{is_own_template, named, what_at, is_struct, is_reference, takes_template, is_generic, named_template, uses_of_field, uses, Reaches, Here, Further}
+use Rattle.nif_schema.specs.Declaration.{Name, Field, Declaration, inherited}
+use Rattle.nif_schema.specs.Schema.{Schema, find, find_block, has_block, parent, fields_of}
+use Rattle.nif_schema.specs.Uses.{is_own_template, named, what_at, is_struct, is_reference, is_generic, named_template, uses_of_field, uses, Here, Further}
 use Rattle.nif_schema.specs.Reasons.{first_reason, reason_where, is_unread, has_bad_member, lacks_parent, has_no_root, ancestor_lacks, names_type, kind_reason, generic_template_reason, reference_template_reason, template_reason, field_reason, fields_reason, line_above, own_reason, IsOpen}
-use Rattle.nif_schema.specs.declared.decls.What.{What}
-use Rattle.nif_schema.specs.declared.decls.What.TheVariants.{Basic, Stored, Struct, Block}
 use Rattle.nif_schema.specs.declared.faults.Closed.{Closed}
 use Rattle.nif_schema.specs.declared.faults.Closed.TheVariants as closed
 use Rattle.nif_layout.specs.Laws.{IsOpenType}
@@ -33,9 +31,10 @@ each_append P (f ∷ a) b x y = (x.0, each_append P a b x.1 y)
 -- what a field uses is used
 each_used : (S : Schema) (fields : List Field) → EachField (λ f. (m : ℕ) → Contains (uses_of_field S f) m → Contains (flat_map (uses_of_field S) fields) m) fields
 each_used S [] = tt
-each_used S (f ∷ fields) =
-    (λ m c. Contains-append_left (uses_of_field S f) (flat_map (uses_of_field S) fields) m c,
-     each_map (λ g h m c. Contains-append_right (uses_of_field S f) (flat_map (uses_of_field S) fields) m (h m c)) fields (each_used S fields))
+each_used S (f ∷ fields) = (
+  λ m c. Contains-append_left (uses_of_field S f) (flat_map (uses_of_field S) fields) m c,
+  each_map (λ g h m c. Contains-append_right (uses_of_field S f) (flat_map (uses_of_field S) fields) m (h m c)) fields (each_used S fields),
+)
 
 pub or_right : (a b : Bool) → b ≡ true → (a || b) ≡ true
 or_right true b e = refl
@@ -94,9 +93,11 @@ parent_within S n p e = by (option_and_then (λ (d : Declaration). inherited d.w
     block : (b : Bool) (m : ℕ) → (if b then Some m else None) ≡ Some p → m ≡ p
     block true m e = cc
     block false m e = absurd (cc)
+
     found : (name : Name) (o : Option ℕ) → find S name ≡ o → option_and_then (λ number. if has_block S number then Some number else None) o ≡ Some p → p < length S
     found name None eo e = absurd (cc)
     found name (Some m) eo e = subst (λ (k : ℕ). k < length S) (block (has_block S m) m e) (find_within S name m eo)
+
     by : (o : Option Name) → option_and_then (find_block S) o ≡ Some p → p < length S
     by None e = absurd (cc)
     by (Some name) e = found name (find S name) refl e
@@ -147,19 +148,19 @@ pub own_facts : (S : Schema) (n : ℕ) (d : Declaration) → slice_get S n ≡ S
 unfolding own_reason
 own_facts S n d e o =
     let reasons : Declaration → List (Option Closed) = λ d.
-      reason_where closed.C2 (lacks_parent S n)
-      ∷ reason_where closed.C3 (has_no_root S n)
-      ∷ reason_where closed.C0 (ancestor_lacks (length S) S n)
-      ∷ reason_where closed.C10 (is_unread S d.what)
-      ∷ reason_where closed.C13 (has_bad_member S d.what)
-      ∷ fields_reason S (is_struct d.what) (line_above S n) d.fields
-      ∷ [] in
+    reason_where closed.C2 (lacks_parent S n)
+    ∷ reason_where closed.C3 (has_no_root S n)
+    ∷ reason_where closed.C0 (ancestor_lacks (length S) S n)
+    ∷ reason_where closed.C10 (is_unread S d.what)
+    ∷ reason_where closed.C13 (has_bad_member S d.what)
+    ∷ fields_reason S (is_struct d.what) (line_above S n) d.fields
+    ∷ [] in
     let P : Option Declaration → Type 0 = λ x. option_and_then (λ d. first_reason (reasons d)) x ≡ None in
     let none : first_reason (reasons d) ≡ None = subst P e o in
     record {
       rooted = no_reason closed.C3 (has_no_root S n) (no_reason_at (reasons d) 1 (reason_where closed.C3 (has_no_root S n)) none refl);
       readable = no_reason closed.C10 (is_unread S d.what) (no_reason_at (reasons d) 3 (reason_where closed.C10 (is_unread S d.what)) none refl);
-      fields = no_reason_at (reasons d) 5 (fields_reason S (is_struct d.what) (line_above S n) d.fields) none refl
+      fields = no_reason_at (reasons d) 5 (fields_reason S (is_struct d.what) (line_above S n) d.fields) none refl;
     }
 
 -- What a field without a reason says of its type and template.
@@ -196,14 +197,15 @@ template_good S in_struct n f kind o e g reason used = by f.template refl needed
     needed : generic_template_reason S in_struct f.template ≡ None
     needed =
         let P : Option ℕ → Type 0 = λ x. option_map_or (λ number.
-              if is_generic S number then generic_template_reason S in_struct f.template
-              else if option_map_or is_reference (what_at S number) false then reference_template_reason S in_struct f.template
-              else None) x None ≡ None in
+        if is_generic S number then generic_template_reason S in_struct f.template
+        else if option_map_or is_reference (what_at S number) false then reference_template_reason S in_struct f.template
+        else None) x None ≡ None in
         let at : P (Some kind) = subst P e reason in
         let Q : Bool → Type 0 = λ b. (if b then generic_template_reason S in_struct f.template
-              else if option_map_or is_reference (what_at S kind) false then reference_template_reason S in_struct f.template
-              else None) ≡ None in
+        else if option_map_or is_reference (what_at S kind) false then reference_template_reason S in_struct f.template
+        else None) ≡ None in
         subst Q g at
+
     by : (t : Option Name) → f.template ≡ t → generic_template_reason S in_struct t ≡ None → TemplateGood S in_struct t
     by None et h = absurd (cc)
     by (Some name) et h = pick (type_named S in_struct (λ number. not (is_generic S number)) name (not_false _ (no_reason closed.C8 _ h)))
@@ -248,6 +250,6 @@ fields_good S n d e o =
     let at : fields_of S n ≡ d.fields = ap (λ (x : Option Declaration). option_map_or (λ d. d.fields) x []) e in
     let F : Field → Type 0 = λ f. (m : ℕ) → Contains (uses_of_field S f) m → Contains (uses S n) m in
     let used : EachField F d.fields = each_map (λ f h m c.
-          let P : List Field → Type 0 = λ fs. Contains (flat_map (uses_of_field S) fs) m in
-          Contains-append_right (option_to_list (parent S n)) (flat_map (uses_of_field S) (fields_of S n)) m (subst P (sym at) (h m c))) d.fields (each_used S d.fields) in
+    let P : List Field → Type 0 = λ fs. Contains (flat_map (uses_of_field S) fs) m in
+    Contains-append_right (option_to_list (parent S n)) (flat_map (uses_of_field S) (fields_of S n)) m (subst P (sym at) (h m c))) d.fields (each_used S d.fields) in
     each_map (λ f h. field_good S (is_struct d.what) n f o h.0 h.1) d.fields (each_both (FieldFacts S (is_struct d.what)) F d.fields known used)

@@ -12,10 +12,11 @@ split s t m n at next p =
     let behind : next.place ≡ at.place + length (s ++ t) = p.place in
     let count : next.nodes ≡ at.nodes + (m + n) = p.nodes in
     let w : next.place ≤ most_bytes = p.within in
-    let c : next.nodes ≤ most_nodes = p.counted in
-    (mid,
-     record { here = p.here ∙ append_assoc s t next.left; place = refl; nodes = refl; within = omega arith; counted = omega arith },
-     record { here = refl; place = omega arith; nodes = omega arith; within = w; counted = c })
+    let c : next.nodes ≤ most_nodes = p.counted in (
+      mid,
+      record { here = p.here ∙ append_assoc s t next.left; place = refl; nodes = refl; within = omega arith; counted = omega arith },
+      record { here = refl; place = omega arith; nodes = omega arith; within = w; counted = c },
+    )
 
 pub join : (s t : List ℕ) (m n : ℕ) (at mid next : Point) → Passes s m at mid → Passes t n mid next → Passes (s ++ t) (m + n) at next
 join s t m n at mid next p q =
@@ -26,7 +27,10 @@ join s t m n at mid next p q =
     let qn : next.nodes ≡ mid.nodes + n = q.nodes in
     record {
       here = p.here ∙ ap (λ x. s ++ x) q.here ∙ sym (append_assoc s t next.left);
-      place = omega arith; nodes = omega arith; within = q.within; counted = q.counted
+      place = omega arith;
+      nodes = omega arith;
+      within = q.within;
+      counted = q.counted;
     }
 
 -- The first of the nodes can be counted before the bytes.

@@ -1,23 +1,23 @@
 -- The laws, proved.
-use Rattle.std.proofs.Common.{◌≡◌, ℕ, zero, suc, ◌+◌, ◌≤◌, ◌⊎◌, inl, inr, Option, Some, List, [], ◌∷◌, ◌++◌, length, drop, refl, sym, ◌∙◌, ap, arith, append-nil}
+use Rattle.std.proofs.Common.{◌≡◌, ℕ, zero, suc, ◌+◌, ◌≤◌, inl, inr, Option, List, [], ◌∷◌, ◌++◌, length, drop, refl, sym, ◌∙◌, ap, arith, append-nil}
 use Rattle.std.specs.Prelude.{Contains}
 use Rattle.nif_base.specs.Node.{Node, Members, text, nodes, nodes_in}
 use Rattle.nif_schema.specs.Declaration.{Field}
 use Rattle.nif_schema.specs.Schema.{Schema, line}
 use Rattle.nif_layout.specs.Context.{Context}
 use Rattle.nif_layout.specs.Earlier.{Env}
-use Rattle.nif_layout.specs.Kind.{Kind, kind_of}
+use Rattle.nif_layout.specs.Kind.{kind_of}
 use Rattle.nif_layout.specs.Form.{Form, form_of}
 use Rattle.nif_layout.specs.Leaf.{AreBytes}
-use Rattle.nif_layout.specs.Fault.{Fault, Point, Passes, Reads, most_bytes, most_nodes}
-use Rattle.nif_layout.specs.Members.{Check, fields_text}
+use Rattle.nif_layout.specs.Fault.{Fault, Point, Passes, most_bytes, most_nodes}
+use Rattle.nif_layout.specs.Members.{Check}
 use Rattle.nif_layout.specs.Shape.{Shape, FormShape, LineShape}
 use Rattle.nif_layout.specs.Fails.{Fails, FormShapeFails, LineFails}
 use Rattle.nif_layout.specs.Laws.{Fits, AllFit, IsOpenType, HasTemplate, OneNode, NoProperPrefix, OneForm, OneLine, line_text, ExactlyOne, at_place, IsPlace, Stands, NodeStands, SpelledOrFails, FormSpelledOrFails, LineSpelledOrFails}
 use Rattle.nif_layout.proofs.Cancel.{shape_cancel, form_shape_cancel, line_cancel}
 use Rattle.nif_layout.proofs.Exclusive.{Excludes, AllExclude, OneFault}
 use Rattle.nif_layout.proofs.Exclusion.{shape_excludes, shape_one, form_shape_excludes, form_shape_one, line_excludes, line_one}
-use Rattle.nif_layout.proofs.Decide.{Within, EachField, Decides, Decided, AllDecide, AllDecided}
+use Rattle.nif_layout.proofs.Decide.{Within, Decides, Decided, AllDecide, AllDecided}
 use Rattle.nif_layout.proofs.DecideShapes.{KnownForm, Known, shape_decides, form_shape_decides, line_decides}
 use Rattle.nif_layout.proofs.OpenKnown.{open_known, open_line_known, each_contained}
 
@@ -48,9 +48,10 @@ within n bytes p there = record { place = there.within; bytes = bytes_drop p byt
 
 -- what stands at a place is passed
 stands_passed : (bytes : List ℕ) (p n : ℕ) (front : List ℕ) (count : ℕ) → Stands bytes p n front count → (next : Point) × Passes front count (at_place n bytes p) next
-stands_passed bytes p n front count h =
-    (record { nodes = n + count; place = p + length front; left = h.rest },
-     record { here = h.here; place = refl; nodes = refl; within = h.within; counted = h.counted })
+stands_passed bytes p n front count h = (
+  record { nodes = n + count; place = p + length front; left = h.rest },
+  record { here = h.here; place = refl; nodes = refl; within = h.within; counted = h.counted },
+)
 
 passed_stands : (bytes : List ℕ) (p n : ℕ) (front : List ℕ) (count : ℕ) (next : Point) → Passes front count (at_place n bytes p) next → Stands bytes p n front count
 passed_stands bytes p n front count next h =
@@ -68,8 +69,10 @@ node_or_fails C V F excludes one decides n p bytes there = by (decides (at_place
     by : Decided C.order V F (at_place n bytes p) → ExactlyOne (NodeStands C V bytes p n) (F (at_place n bytes p))
     by (inl r) = inl ((r.0, r.2, passed_stands bytes p n (text C.order r.0) (nodes r.0) r.1 r.3), λ w h. excludes r.0 (at_place n bytes p) r.1 w r.2 r.3 h)
     by (inr r) =
-        inr (λ s. let q = stands_passed bytes p n (text C.order s.0) (nodes s.0) s.2 in excludes s.0 (at_place n bytes p) q.0 r.0 s.1 q.1 r.1,
-             (r.0, r.1, λ v h. one (at_place n bytes p) v r.0 h r.1))
+        inr (
+          λ s. let q = stands_passed bytes p n (text C.order s.0) (nodes s.0) s.2 in excludes s.0 (at_place n bytes p) q.0 r.0 s.1 q.1 r.1,
+          (r.0, r.1, λ v h. one (at_place n bytes p) v r.0 h r.1),
+        )
 
 -- the same of members
 members_or_fail : {Why : Type 0} (T : Members → List ℕ) (V : Members → Type 0) (F : Point → Why → Type 0) → AllExclude T V F → OneFault F → AllDecide T V F
@@ -80,8 +83,10 @@ members_or_fail {Why} T V F excludes one decides n p bytes there few = by (decid
     by : AllDecided T V F (at_place n bytes p) → ExactlyOne ((members : Members) × V members × Stands bytes p n (T members) (nodes_in members)) (F (at_place n bytes p))
     by (inl r) = inl ((r.0, r.2, passed_stands bytes p n (T r.0) (nodes_in r.0) r.1 r.3), λ w h. excludes r.0 (at_place n bytes p) r.1 w r.2 r.3 h)
     by (inr r) =
-        inr (λ s. let q = stands_passed bytes p n (T s.0) (nodes_in s.0) s.2 in excludes s.0 (at_place n bytes p) q.0 r.0 s.1 q.1 r.1,
-             (r.0, r.1, λ v h. one (at_place n bytes p) v r.0 h r.1))
+        inr (
+          λ s. let q = stands_passed bytes p n (T s.0) (nodes_in s.0) s.2 in excludes s.0 (at_place n bytes p) q.0 r.0 s.1 q.1 r.1,
+          (r.0, r.1, λ v h. one (at_place n bytes p) v r.0 h r.1),
+        )
 
 pub type_or_fails : (S : Schema) (C : Context) (number : ℕ) (template : Option ℕ) (arg : ℕ) → Fits C → IsOpenType S number → HasTemplate S number template → SpelledOrFails S C number template arg
 type_or_fails S C number template arg fits opened has d n p bytes there =

@@ -9,7 +9,7 @@ use Rattle.nif_schema.specs.Schema.{Schema}
 use Rattle.nif_layout.specs.Context.{Context}
 use Rattle.nif_layout.specs.Earlier.{Env, behind}
 use Rattle.nif_layout.specs.Present.{present}
-use Rattle.nif_layout.specs.Kind.{Kind, Number, Line, Ref, Text, Group, Unknown, kind_of}
+use Rattle.nif_layout.specs.Kind.{Kind, Number, Line, Ref, Text, Group, Unknown}
 use Rattle.nif_layout.specs.Form.{Form, One, Run, Row, form_of}
 use Rattle.nif_layout.specs.Fault.{Fault, TooDeep, TooManyNodes, Point, Reads, one_more, most_nodes}
 use Rattle.nif_layout.specs.LeafFault.{shortage, leaf_fault}

@@ -1,15 +1,15 @@
 -- The laws of spellings and faults.
-use Rattle.std.specs.Prelude.{ℕ, ◌≡◌, ◌+◌, ◌^◌, ◌<◌, ◌≤◌, ◌⊎◌, Bool, true, false, Some, List, [], ◌++◌, length, drop, Contains}
+use Rattle.std.specs.Prelude.{ℕ, ◌≡◌, ◌+◌, ◌^◌, ◌<◌, ◌≤◌, ◌⊎◌, true, false, Some, List, [], ◌++◌, length, drop}
 use Rattle.std.specs.declared.option.Option.{Option}
 use Rattle.nif_base.specs.Node.{Node, Members, text, nodes, nodes_in}
 use Rattle.nif_schema.specs.Declaration.{Field}
-use Rattle.nif_schema.specs.Schema.{Schema, line}
+use Rattle.nif_schema.specs.Schema.{Schema}
 use Rattle.nif_schema.specs.Uses.{is_generic}
 use Rattle.nif_schema.specs.Reasons.{IsOpen}
 use Rattle.nif_layout.specs.Context.{Context}
 use Rattle.nif_layout.specs.Earlier.{Env}
 use Rattle.nif_layout.specs.Kind.{kind_of}
-use Rattle.nif_layout.specs.Form.{Form, form_of}
+use Rattle.nif_layout.specs.Form.{Form}
 use Rattle.nif_layout.specs.Leaf.{AreBytes}
 use Rattle.nif_layout.specs.Fault.{Fault, Point, most_bytes, most_nodes}
 use Rattle.nif_layout.specs.Members.{Check, fields_text}
@@ -90,7 +90,7 @@ NodeStands C IsIt bytes p n = (at : Node) × IsIt at × Stands bytes p n (text C
 abbrev pub SpelledOrFails : Schema → Context → ℕ → Option ℕ → ℕ → Type 0
 SpelledOrFails schema C number template arg = (d n p : ℕ) (bytes : List ℕ) → IsPlace bytes p
     → ExactlyOne (NodeStands C (Shape schema C d (kind_of schema C number template arg)) bytes p n)
-        (Fails schema C d (kind_of schema C number template arg) (at_place n bytes p))
+    (Fails schema C d (kind_of schema C number template arg) (at_place n bytes p))
 
 -- The same of the value of a field.
 abbrev pub FormSpelledOrFails : Schema → Context → Form → Type 0
@@ -101,4 +101,4 @@ FormSpelledOrFails schema C form = (d n p : ℕ) (bytes : List ℕ) → IsPlace 
 abbrev pub LineSpelledOrFails : {Why : Type 0} → Schema → (Env → Context) → Option ℕ → ℕ → (Fault → Why) → Check Why → List Field → Type 0
 LineSpelledOrFails schema at template arg by_fault check fields = (d n p : ℕ) (bytes : List ℕ) → IsPlace bytes p → n ≤ most_nodes
     → ExactlyOne ((members : Members) × LineShape schema at d template arg check fields [] members × Stands bytes p n (line_text at fields [] members) (nodes_in members))
-        (LineFails schema at d template arg by_fault check fields [] (at_place n bytes p))
+    (LineFails schema at d template arg by_fault check fields [] (at_place n bytes p))

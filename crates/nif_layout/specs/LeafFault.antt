@@ -1,7 +1,7 @@
 -- Why a leaf, or a run of bytes, can't be read where its node is counted.
 use Rattle.std.specs.Prelude.{ℕ, zero, suc, ◌+◌, ◌*◌, Bool, true, false, ◌&&◌, nat_lt, ◌==◌, if◌then◌else◌, None, Some, List, [], ◌∷◌, length, take, reverse}
 use Rattle.std.specs.declared.option.Option.{Option}
-use Rattle.std.specs.Option.{option_map, option_map_or}
+use Rattle.std.specs.Option.{option_map}
 use Rattle.nif_base.specs.Node.{is_little}
 use Rattle.nif_layout.specs.Context.{Context}
 use Rattle.nif_layout.specs.Kind.{Kind, Number, Line, Ref, Text}
