@@ -2,7 +2,6 @@
 -- names. What a file says twice, its counts, the entries of its types, the index of types and the sizes, is left out
 -- of the header: there the counts are 0, and the lists have no item.
 use Rattle.std.specs.Prelude.{ℕ, List}
-use Rattle.std.specs.declared.option.Option.{Option}
 use Rattle.nif_base.specs.declared.orders.Order.{Order}
 use Rattle.nif_base.specs.Node.{Node}
 use Rattle.nif_base.specs.File.{Block}

@@ -1,7 +1,6 @@
 //! What a file says of itself before its blocks are read.
-use nif_base::Version;
-
 pub use nif_base::Order;
+use nif_base::Version;
 
 /// What decides which fields are present and how they are spelled.
 #[derive(Debug, Clone, Copy, PartialEq, Eq)]
