@@ -1,1 +1,4 @@
 mod Lists
+mod Links
+mod Marking
+mod Spreading

@@ -2,6 +2,11 @@
 //! `nif_schema`, and promises that both are exactly as defined there, in time linear in declarations and fields.
 #![tactic(auto)]
 
+mod names;
+mod spread;
 mod templates;
+mod users;
 
+pub use names::named;
+pub use spread::reaching;
 pub use templates::{generic_structs, is_own_template};

@@ -1,4 +1,4 @@
-use Rattle.std.proofs.Common.{◌+◌, true, false, ◌||◌, map, drop, sym, ap, ◌∙◌, arith}
+use Rattle.std.proofs.Common.{◌+◌, ◌||◌, map, drop, sym, ap, ◌∙◌, arith}
 use Rattle.std.specs.List.{list_any}
 use Rattle.nif_schema.specs.Declaration.{field}
 use Rattle.nif_schema.specs.Uses.{takes_template}
