@@ -9,3 +9,4 @@ pub mod PathLemmas
 pub mod GoingLemmas
 pub mod FirstLemmas
 pub mod Longest
+pub mod Decided

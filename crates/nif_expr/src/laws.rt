@@ -1,5 +1,5 @@
 //! Laws of the grammar, over the definitions alone.
-ghost use Rattle.std.specs.Prelude.{◌≡◌, ℕ, List, Some};
+ghost use Rattle.std.specs.Prelude.{◌≡◌, ◌⊎◌, ℕ, List, Some};
 ghost use Rattle.nif_schema.specs.Expression.{Tree};
 ghost use Rattle.nif_expr.specs.Parts.{Part, signs, first_sign, AreNotLonger};
 ghost use Rattle.nif_expr.specs.Grammar.{IsExpression};
@@ -12,4 +12,9 @@ pub fn one_tree()
 /// The operator that is taken is the longest that the text begins with.
 pub fn longest_operator()
     ensures { (text rest : List ℕ) (p : Part) → first_sign signs text ≡ Some (p, rest) → AreNotLonger signs text rest }
+{}
+
+/// Each text has a tree or has none: which of the two can be told.
+pub fn tree_or_none()
+    ensures { (text : List ℕ) → ((t : Tree) × IsExpression text t) ⊎ ((t : Tree) → IsExpression text t → ⊥) }
 {}

@@ -1,4 +1,4 @@
--- Where each text is an expression or is none, each tree has an outcome.
+-- Each tree has an outcome, since each text is an expression or is none.
 use Rattle.std.proofs.Common.{◌≡◌, ℕ, ◌+◌, ◌≤◌, ◌<◌, Bool, true, false, cond, List, [], ◌∷◌, ◌++◌, Option, Some, None, refl, sym, ap, ◌∙◌, subst, length, arith, ◌⊎◌, inl, inr, nat_le}
 use Rattle.std.specs.Prelude.{◌||◌, codes}
 use Rattle.std.specs.Str.{bytes_eq}
@@ -20,8 +20,12 @@ use Rattle.nif_read.specs.declared.forms.Form.{Form}
 use Rattle.nif_read.specs.Attributes.{Text, text_of}
 use Rattle.nif_read.specs.Fields.{Reads, IsFormula, Either, IsField, plain, width_of, bound_of, exact_of, is_nameless}
 use Rattle.nif_read.specs.Declarations.{form_of, name_in, fields_in, members_in, what_of, has_nameless, IsDeclaration}
-use Rattle.nif_read.specs.Schemas.{declaring, AreDeclared, Declares, DeclaresNot, AreDecided, fault_of, fault_at, fault_as, fault_under, first_fault, names_by, replaced_in}
+use Rattle.nif_read.specs.Schemas.{declaring, AreDeclared, Declares, DeclaresNot, fault_of, fault_at, fault_as, fault_under, first_fault, names_by, replaced_in}
 use Rattle.nif_read.proofs.Zips.{zip_some}
+
+-- each text is an expression or is none
+abbrev pub AreDecided : Type 0
+AreDecided = (text : List ℕ) → ((tree : Tree) × IsExpression text tree) ⊎ ((tree : Tree) → IsExpression text tree → ⊥)
 
 formula-by : AreDecided → (text : Expanded) (long : Bool) → text.too_long ≡ long → (f : Formula) × IsFormula text f
 formula-by decided text true long = (Bad, λ tree h. let e : true ≡ false = sym long ∙ h.whole in absurd (cc))

@@ -1,13 +1,11 @@
 -- The schema that a tree of elements declares, or its first fault.
-use Rattle.std.specs.Prelude.{ℕ, ◌+◌, ◌≡◌, Bool, true, false, ◌&&◌, ◌⊎◌, if◌then◌else◌, List, [], ◌∷◌, ◌++◌, codes, bytes_eq, None, Some, map}
+use Rattle.std.specs.Prelude.{ℕ, ◌+◌, ◌≡◌, Bool, true, false, ◌&&◌, if◌then◌else◌, List, [], ◌∷◌, ◌++◌, codes, bytes_eq, None, Some, map}
 use Rattle.std.specs.declared.option.Option.{Option}
 use Rattle.std.specs.Option.{option_or, option_map}
 use Rattle.std.specs.List.{list_any, filter_map, AllZip}
 use Rattle.nif_text.specs.Tree.{Tree, name_of, attrs_of, children_of}
 use Rattle.nif_text.specs.Documents.{Written, Unwritten, IsAfter}
 use Rattle.nif_schema.specs.Declaration.{Declaration}
-use Rattle.nif_schema.specs.Expression.{Tree as Expression}
-use Rattle.nif_expr.specs.Grammar.{IsExpression}
 use Rattle.nif_schema.specs.Schema.{Schema}
 use Rattle.nif_schema.specs.declared.faults.SchemaFault.{SchemaFault}
 use Rattle.nif_schema.specs.declared.faults.SchemaFault.TheVariants as faults
@@ -89,7 +87,3 @@ IsRefused bytes (faults.HeaderRole rule) = ⊥
 IsRefused bytes faults.SchemaTooLong = ⊥
 IsRefused bytes faults.NoMemory = Unit {0}
 IsRefused bytes fault = (tree : Tree) × Written tree bytes × DeclaresNot tree fault
-
--- Each text is an expression or is none.
-abbrev pub AreDecided : Type 0
-AreDecided = (text : List ℕ) → ((tree : Expression) × IsExpression text tree) ⊎ ((tree : Expression) → IsExpression text tree → ⊥)

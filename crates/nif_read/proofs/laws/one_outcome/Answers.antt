@@ -7,5 +7,5 @@ returns c = record {
   schema = λ root a b h k. schema_one c.one_tree.ensures root a b h k;
   fault = λ root a b h k. fault_one root a b h k;
   not_both = λ root schema fault h k. not_both root schema fault h k;
-  some = λ decided root. some_outcome decided root;
+  some = λ root. some_outcome c.tree_or_none.ensures root;
 }
