@@ -17,6 +17,3 @@ mod texts;
 pub mod tokens;
 
 pub use reading::read_schema;
-
-#[cfg(test)]
-mod tests;

@@ -1,5 +1,5 @@
-//! Schema texts with the faults and the fields that they give.
-use crate::read_schema;
+//! Schema texts with the faults that they give.
+use nif_read::read_schema;
 use nif_schema::SchemaFault;
 use std::alloc::AllocError;
 use std::process::Abort;
@@ -21,7 +21,7 @@ fn outcome<R: Abort + AllocGlobal>(rt: &R, text: &[u8]) -> Result<(u8, u64), All
     }
 }
 
-const OUTCOMES: [(&[u8], (u8, u64)); 16] = [
+const OUTCOMES: [(&[u8], (u8, u64)); 19] = [
     (b"<niftoolsxml/>", (0, 0)),
     (
         b"<niftoolsxml><basic name='uint'/><x/></niftoolsxml>",
@@ -72,6 +72,18 @@ const OUTCOMES: [(&[u8], (u8, u64)); 16] = [
     ),
     (
         b"<niftoolsxml><struct name='S'><field type='uint'/></struct><token><a/></token></niftoolsxml>",
+        (3, 0),
+    ),
+    (
+        b"<niftoolsxml><struct/><struct name='A'/><struct name='A'/></niftoolsxml>",
+        (3, 0),
+    ),
+    (
+        b"<niftoolsxml><struct name='A'/><compound name='A'/></niftoolsxml>",
+        (4, 1),
+    ),
+    (
+        b"<niftoolsxml><compound name='A'><add name='F' type='uint'/><field name='G'/></compound></niftoolsxml>",
         (3, 0),
     ),
 ];
