@@ -1,6 +1,6 @@
 -- Each text is an expression or is none.
 use Rattle.std.proofs.Common.{◌≡◌, ℕ, zero, suc, ◌^◌, ◌<◌, ◌≤◌, Bool, true, false, List, [], ◌∷◌, ◌++◌, ◌⊎◌, Option, Some, None, length, take, drop, refl, sym, ap, ◌∙◌, subst, arith, inl, inr}
-use Rattle.std.specs.Prelude.{codes, nat_eq, nat_le, nat_lt, ◌==◌, ◌&&◌, Contains, MatchOption}
+use Rattle.std.specs.Prelude.{codes, nat_eq, nat_le, nat_lt, ◌&&◌, Contains, MatchOption}
 use Rattle.std.specs.List.{AllPass, list_all}
 use Rattle.std.specs.Set.{is_member}
 use Rattle.std.specs.Bool.{Decides}
@@ -35,12 +35,15 @@ decimal text = by (nat_le 1 (length text) && list_all is_digit text && nat_lt (n
     by : (b : Bool) → (nat_le 1 (length text) && list_all is_digit text && nat_lt (number_of 10 text) (2 ^ 64)) ≡ b → One (IsDecimal text)
     by true e =
         let all : list_all is_digit text ≡ true = grind (arith, nat_tests) in
-        inl (number_of 10 text, record {
-          some = grind (arith, nat_tests);
-          digits = AllPass-from_list_all is_digit text all;
-          value = refl;
-          small = grind (arith, nat_tests);
-        })
+        inl (
+          number_of 10 text,
+          record {
+            some = grind (arith, nat_tests);
+            digits = AllPass-from_list_all is_digit text all;
+            value = refl;
+            small = grind (arith, nat_tests);
+          },
+        )
     by false e = inr (λ n h.
         let all : list_all is_digit text ≡ true = list_all-from_AllPass is_digit text h.digits in
         let some : 0 < length text = h.some in
@@ -53,14 +56,17 @@ hex_of text digits e = by (nat_le 1 (length digits) && nat_le (length digits) 16
     by : (b : Bool) → (nat_le 1 (length digits) && nat_le (length digits) 16 && list_all is_hex_digit digits) ≡ b → One (IsHexadecimal text)
     by true t =
         let all : list_all is_hex_digit digits ≡ true = grind (arith, nat_tests) in
-        inl (number_of 16 digits, record {
-          digits = digits;
-          spelled = e;
-          some = grind (arith, nat_tests);
-          short = grind (arith, nat_tests);
-          hex = AllPass-from_list_all is_hex_digit digits all;
-          value = refl;
-        })
+        inl (
+          number_of 16 digits,
+          record {
+            digits = digits;
+            spelled = e;
+            some = grind (arith, nat_tests);
+            short = grind (arith, nat_tests);
+            hex = AllPass-from_list_all is_hex_digit digits all;
+            value = refl;
+          },
+        )
     by false t = inr (λ n h.
         let spelled : codes "0x" ++ h.digits ≡ codes "0x" ++ digits = sym h.spelled ∙ e in
         let same : h.digits ≡ digits = cc in

@@ -13,12 +13,13 @@ use Rattle.nif_schema.specs.Declaration.{Formula, Read, Bad, Field, Declaration}
 use Rattle.nif_schema.specs.Schema.{Schema}
 use Rattle.nif_schema.specs.declared.faults.SchemaFault.{SchemaFault}
 use Rattle.nif_expr.specs.Grammar.{IsExpression}
-use Rattle.nif_read.specs.declared.tokens.Expanded.{Expanded}
-use Rattle.nif_read.specs.declared.tokens.Attribute.{Attribute}
-use Rattle.nif_read.specs.declared.tokens.Attribute.TheVariants as the
+use Rattle.nif_attributes.specs.declared.tokens.Expanded.{Expanded}
+use Rattle.nif_attributes.specs.declared.tokens.Attribute.{Attribute}
+use Rattle.nif_attributes.specs.declared.tokens.Attribute.TheVariants as the
 use Rattle.nif_read.specs.declared.forms.Form.{Form}
-use Rattle.nif_read.specs.Attributes.{Text, text_of}
-use Rattle.nif_read.specs.Fields.{Reads, IsFormula, Either, IsField, plain, width_of, bound_of, exact_of, is_nameless}
+use Rattle.nif_attributes.specs.Attributes.{Text, text_of}
+use Rattle.nif_attributes.specs.Texts.{Reads, IsFormula, Either, plain, bound_of, exact_of}
+use Rattle.nif_read.specs.Fields.{IsField, width_of, is_nameless}
 use Rattle.nif_read.specs.Declarations.{form_of, name_in, fields_in, members_in, what_of, has_nameless, IsDeclaration}
 use Rattle.nif_read.specs.Schemas.{declaring, AreDeclared, Declares, DeclaresNot, fault_of, fault_at, fault_as, fault_under, first_fault, names_by, replaced_in}
 use Rattle.nif_read.proofs.Zips.{zip_some}

@@ -4,7 +4,7 @@ use Rattle.std.specs.List.{list_any}
 use Rattle.std.specs.Str.{bytes_eq}
 use Rattle.nif_schema.specs.declared.faults.SchemaFault.{SchemaFault}
 use Rattle.nif_schema.specs.declared.faults.SchemaFault.TheVariants as faults
-use Rattle.nif_read.specs.Attributes.{Text}
+use Rattle.nif_attributes.specs.Attributes.{Text}
 use Rattle.nif_read.specs.Schemas.{fault_under}
 
 abbrev chosen : Bool → Bool → Text → ℕ → Option SchemaFault

@@ -2,32 +2,13 @@
 use Rattle.std.proofs.Common.{◌≡◌, ℕ, ◌+◌, ◌<◌, ◌≤◌, Bool, true, false, cond, ltb, List, [], ◌∷◌, Option, Some, None, refl, sym, ap, ◌∙◌, length, arith}
 use Rattle.std.specs.Prelude.{map, not, ◌||◌, position}
 use Rattle.std.specs.Option.{is_some}
-use Rattle.std.specs.List.{list_any, prefix_len, position_or_len}
+use Rattle.std.specs.List.{list_any, position_or_len}
 use Rattle.std.specs.Str.{bytes_eq}
 use Rattle.std.proofs.lemmas.Bool.Decides.{nat_tests}
+use Rattle.std.proofs.lemmas.List.Folds.{list_any_none, list_any_at}
+use Rattle.std.proofs.lemmas.List.Sums.{fails_before_first, passes_at_first}
 use Rattle.nif_schema.specs.Schema.{Schema, find}
-use Rattle.nif_read.specs.Attributes.{Text}
-
-all_not : {X : Type 0} (p : X → Bool) (xs : List X) → list_any p xs ≡ false → prefix_len (λ x. not (p x)) xs ≡ length xs
-all_not p [] e = refl
-all_not p (x ∷ xs) e = by (p x) refl (all_not p xs)
-  where
-    by : (b : Bool) → p x ≡ b → (list_any p xs ≡ false → prefix_len (λ y. not (p y)) xs ≡ length xs) → prefix_len (λ y. not (p y)) (x ∷ xs) ≡ length (x ∷ xs)
-    by true h later = let no : true ≡ false = sym (ap (λ b. b || list_any p xs) h) ∙ e in absurd (cc)
-    by false h later =
-        let rest : list_any p xs ≡ false = sym (ap (λ b. b || list_any p xs) h) ∙ e in
-        let more : prefix_len (λ y. not (p y)) (x ∷ xs) ≡ 1 + prefix_len (λ y. not (p y)) xs = ap (λ b. cond (not b) (1 + prefix_len (λ y. not (p y)) xs) 0) h in
-        omega (arith, later rest)
-
-not_any : {X : Type 0} (p : X → Bool) (xs : List X) → length xs ≤ prefix_len (λ x. not (p x)) xs → list_any p xs ≡ false
-not_any p [] le = refl
-not_any p (x ∷ xs) le = by (p x) refl (not_any p xs)
-  where
-    by : (b : Bool) → p x ≡ b → (length xs ≤ prefix_len (λ y. not (p y)) xs → list_any p xs ≡ false) → list_any p (x ∷ xs) ≡ false
-    by true e rest = let none : prefix_len (λ y. not (p y)) (x ∷ xs) ≡ 0 = ap (λ b. cond (not b) (1 + prefix_len (λ y. not (p y)) xs) 0) e in absurd (omega arith)
-    by false e rest =
-        let more : prefix_len (λ y. not (p y)) (x ∷ xs) ≡ 1 + prefix_len (λ y. not (p y)) xs = ap (λ b. cond (not b) (1 + prefix_len (λ y. not (p y)) xs) 0) e in
-        ap (λ b. b || list_any p xs) e ∙ rest (omega arith)
+use Rattle.nif_attributes.specs.Attributes.{Text}
 
 list_any-map : {X Y : Type 0} (p : Y → Bool) (f : X → Y) (xs : List X) → list_any p (map f xs) ≡ list_any (λ x. p (f x)) xs
 list_any-map p f [] = refl
@@ -38,16 +19,20 @@ any-none p xs e = by (ltb (position_or_len p xs) (length xs)) refl
   where
     by : (b : Bool) → ltb (position_or_len p xs) (length xs) ≡ b → list_any p xs ≡ false
     by true t = let some : position p xs ≡ Some (position_or_len p xs) = ap (λ b. cond b (Some (position_or_len p xs)) None) t in absurd (cc)
-    by false t = not_any p xs (grind (arith, nat_tests))
+    by false t =
+        let all : length xs ≤ position_or_len p xs = grind (arith, nat_tests) in
+        list_any_none p xs (λ k d h. fails_before_first p xs k d (omega (arith, h, all)))
 
 any-some : {X : Type 0} (p : X → Bool) (xs : List X) (n : ℕ) → position p xs ≡ Some n → list_any p xs ≡ true
-any-some p xs n e = by (list_any p xs) refl
+any-some p [] n e = absurd (cc)
+any-some p (x ∷ xs) n e = by (ltb (position_or_len p (x ∷ xs)) (length (x ∷ xs))) refl
   where
-    by : (b : Bool) → list_any p xs ≡ b → b ≡ true
-    by true h = refl
-    by false h =
-        let no : ltb (position_or_len p xs) (length xs) ≡ false = let all = all_not p xs h in grind (arith, nat_tests) in
-        let none : position p xs ≡ None = ap (λ b. cond b (Some (position_or_len p xs)) None) no in
+    by : (b : Bool) → ltb (position_or_len p (x ∷ xs)) (length (x ∷ xs)) ≡ b → list_any p (x ∷ xs) ≡ true
+    by true t =
+        let less : position_or_len p (x ∷ xs) < length (x ∷ xs) = grind (arith, nat_tests) in
+        list_any_at p (x ∷ xs) (position_or_len p (x ∷ xs)) x less (passes_at_first p (x ∷ xs) x less)
+    by false t =
+        let none : position p (x ∷ xs) ≡ None = ap (λ b. cond b (Some (position_or_len p (x ∷ xs))) None) t in
         absurd (cc)
 
 -- A name is declared exactly where it is found.

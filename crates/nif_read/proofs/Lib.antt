@@ -1,13 +1,9 @@
-pub mod Replacing
-pub mod Groups
 pub mod Trees
 pub mod Zips
 pub mod Steps
 pub mod Found
 pub mod Loops
 pub mod Outcomes
-pub mod Decimals
 pub mod Existence
 pub mod Faults
-pub mod LeafLemmas
 pub mod Walk

@@ -9,10 +9,10 @@ use Rattle.nif_text.specs.Tree.{Tree, name_of, attrs_of}
 use Rattle.nif_schema.specs.Declaration.{Declaration}
 use Rattle.nif_schema.specs.Schema.{Schema, find}
 use Rattle.nif_schema.specs.declared.faults.SchemaFault.{SchemaFault}
-use Rattle.nif_read.specs.declared.tokens.Expanded.{Expanded}
-use Rattle.nif_read.specs.declared.tokens.Attribute.{Attribute}
+use Rattle.nif_attributes.specs.declared.tokens.Expanded.{Expanded}
+use Rattle.nif_attributes.specs.declared.tokens.Attribute.{Attribute}
 use Rattle.nif_read.specs.declared.forms.Form.{Form}
-use Rattle.nif_read.specs.Attributes.{Text}
+use Rattle.nif_attributes.specs.Attributes.{Text}
 use Rattle.nif_read.specs.Declarations.{form_of, name_in, IsDeclaration}
 use Rattle.nif_read.specs.Schemas.{fault_at, first_fault, names_by, declared_by, declaring, AreDeclared}
 use Rattle.nif_read.specs.Kept.{StepAs, Stepped}

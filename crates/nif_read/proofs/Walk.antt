@@ -10,11 +10,11 @@ use Rattle.nif_text.specs.Documents.{Written}
 use Rattle.nif_schema.specs.Schema.{Schema}
 use Rattle.nif_schema.specs.declared.faults.SchemaFault.{SchemaFault}
 use Rattle.nif_schema.specs.declared.faults.SchemaFault.TheVariants as faults
-use Rattle.nif_read.specs.declared.tokens.Expanded.{Expanded}
-use Rattle.nif_read.specs.declared.tokens.Attribute.{Attribute}
+use Rattle.nif_attributes.specs.declared.tokens.Expanded.{Expanded}
+use Rattle.nif_attributes.specs.declared.tokens.Attribute.{Attribute}
 use Rattle.nif_read.specs.declared.forms.Form.{Form}
-use Rattle.nif_read.specs.Attributes.{Text, replaced_by}
-use Rattle.nif_read.specs.Tokens.{Group, ExpandAlike, has_refused}
+use Rattle.nif_attributes.specs.Attributes.{Text, replaced_by}
+use Rattle.nif_attributes.specs.Tokens.{Group, ExpandAlike, has_refused}
 use Rattle.nif_read.specs.Declarations.{form_of, name_in, has_nameless}
 use Rattle.nif_read.specs.Schemas.{IsRefused, is_group, names_by, fault_under, fault_as, fault_at, fault_of, first_fault, group_fault, declaring, AreDeclared, Declares, replaced_in}
 use Rattle.nif_read.specs.Kept.{StepAs, Stepped, IsFaultOf}

@@ -1,20 +1,19 @@
 -- What the children of the root declare.
-use Rattle.std.specs.Prelude.{ℕ, ◌≡◌, ◌-◌, ◌≤◌, Bool, true, false, ◌&&◌, ◌||◌, not, if◌then◌else◌, nat_le, List, [], ◌∷◌, codes, bytes_eq, None, Some, map, filter, option_and_then, unwrap_or}
+use Rattle.std.specs.Prelude.{ℕ, ◌≡◌, Bool, true, false, ◌||◌, if◌then◌else◌, nat_le, List, [], codes, bytes_eq, None, Some, map, filter, option_and_then, unwrap_or}
 use Rattle.std.specs.declared.option.Option.{Option}
-use Rattle.std.specs.Option.{option_map, is_none, is_some}
+use Rattle.std.specs.Option.{is_none}
 use Rattle.std.specs.List.{list_any, AllZip}
 use Rattle.nif_text.specs.Tree.{Tree, name_of, attrs_of, children_of}
-use Rattle.nif_schema.specs.Declaration.{Field, Declaration}
-use Rattle.nif_schema.specs.Basic.{listed_leaf, unsigned}
-use Rattle.nif_schema.specs.declared.decls.Leaf.{Leaf}
-use Rattle.nif_schema.specs.declared.decls.Leaf.TheVariants as leaf
+use Rattle.nif_schema.specs.Declaration.{Declaration}
 use Rattle.nif_schema.specs.declared.decls.What.{What}
 use Rattle.nif_schema.specs.declared.decls.What.TheVariants as what
 use Rattle.nif_schema.specs.declared.members.BitMember.{BitMember}
-use Rattle.nif_read.specs.declared.tokens.Expanded.{Expanded}
-use Rattle.nif_read.specs.Attributes.{Text, Attrs, given, text_of}
-use Rattle.nif_read.specs.Fields.{IsField, is_nameless, decimal}
-use Rattle.nif_read.specs.declared.tokens.Attribute.{Attribute}
+use Rattle.nif_attributes.specs.declared.tokens.Expanded.{Expanded}
+use Rattle.nif_attributes.specs.Attributes.{Text, Attrs, given, text_of}
+use Rattle.nif_attributes.specs.Leaves.{leaf_of}
+use Rattle.nif_attributes.specs.Texts.{decimal}
+use Rattle.nif_read.specs.Fields.{IsField, is_nameless}
+use Rattle.nif_attributes.specs.declared.tokens.Attribute.{Attribute}
 use Rattle.nif_read.specs.declared.forms.Form.{Form}
 use Rattle.nif_read.specs.declared.forms.Form.TheVariants.{Basic, Enum, Bitfield, Struct, Block}
 
@@ -29,19 +28,6 @@ form_of name =
     else if bytes_eq name (codes "compound") then Some Struct
     else if bytes_eq name (codes "niobject") then Some Block
     else None
-
--- A basic whose name isn't listed is an unsigned number by its `size`, which is exactly 1, 2, 4 or 8, or can't be read.
-unfoldable pub sized : Text → Leaf
-sized size =
-    if bytes_eq size (codes "1") then unsigned 1
-    else if bytes_eq size (codes "2") then unsigned 2
-    else if bytes_eq size (codes "4") then unsigned 4
-    else if bytes_eq size (codes "8") then unsigned 8
-    else leaf.Unread
-
--- the leaf of a basic, which goes by its name where that is listed
-unfoldable pub leaf_of : Text → Option Text → Leaf
-leaf_of name size = unwrap_or (listed_leaf name) (sized (unwrap_or size []))
 
 -- The fields of a struct or block type are the children of these names.
 unfoldable pub is_field : Tree → Bool

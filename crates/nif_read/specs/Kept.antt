@@ -1,8 +1,6 @@
 -- What functions inside the crate answer.
-use Rattle.std.specs.Prelude.{ℕ, ◌≡◌, Bool, true, false, IsTrue, List, [], ◌∷◌, ◌++◌, None, Some, map, filter, find}
-use Rattle.std.specs.Borrow.{Bor}
+use Rattle.std.specs.Prelude.{ℕ, ◌≡◌, Bool, false, IsTrue, List, [], ◌∷◌, ◌++◌, None, Some, map, filter}
 use Rattle.std.specs.Option.{option_map, is_none}
-use Rattle.std.specs.Str.{bytes_eq}
 use Rattle.std.specs.declared.option.Option.{Option}
 use Rattle.std.specs.List.{list_any, AllZip}
 use Rattle.nif_text.specs.Tree.{Tree, name_of, attrs_of, children_of}
@@ -10,29 +8,24 @@ use Rattle.nif_schema.specs.Declaration.{Declaration, formula, field, declaratio
 use Rattle.nif_schema.specs.Basic.{IsLeafOf, HasItsLeaf}
 use Rattle.nif_schema.specs.Schema.{Schema}
 use Rattle.nif_schema.specs.declared.decls.Decl.{Decl}
-use Rattle.nif_schema.specs.declared.decls.Leaf.{Leaf}
 use Rattle.nif_schema.specs.declared.decls.What.{What}
 use Rattle.nif_schema.specs.declared.decls.What.TheVariants as what
 use Rattle.nif_schema.specs.declared.members.BitMember.{BitMember}
 use Rattle.nif_schema.specs.declared.faults.SchemaFault.{SchemaFault}
 use Rattle.nif_schema.specs.declared.faults.SchemaFault.TheVariants as faults
 use Rattle.nif_schema.specs.declared.fields.Field as kept
-use Rattle.nif_read.specs.declared.tokens.Expanded.{Expanded}
-use Rattle.nif_read.specs.Attributes.{Text, text_of, replaced_by}
-use Rattle.nif_read.specs.Fields.{Either, IsFormula, IsField, plain, width_of, bound_of, exact_of, is_nameless}
+use Rattle.nif_attributes.specs.declared.tokens.Expanded.{Expanded}
+use Rattle.nif_attributes.specs.Attributes.{Text, text_of}
+use Rattle.nif_attributes.specs.Texts.{Either, IsFormula, plain, bound_of, exact_of}
+use Rattle.nif_read.specs.Fields.{IsField, width_of, is_nameless}
 use Rattle.nif_read.specs.declared.fields.Formulas.{Formulas}
 use Rattle.nif_read.specs.declared.fields.Versions.{Versions}
 use Rattle.nif_read.specs.declared.fields.Types.{Types}
-use Rattle.nif_read.specs.declared.tokens.Attribute.TheVariants as the
+use Rattle.nif_attributes.specs.declared.tokens.Attribute.TheVariants as the
 use Rattle.nif_read.specs.Declarations.{form_of, is_field, is_member, name_in, member_of, fields_in, members_in, what_of, has_nameless, IsDeclaration}
 use Rattle.nif_read.specs.Schemas.{fault_at}
 use Rattle.nif_read.specs.declared.forms.Form.{Form}
-use Rattle.nif_read.specs.declared.tokens.Attribute.{Attribute}
-use Rattle.nif_read.specs.declared.texts.Texts.{Texts}
-
--- the texts of the attributes
-abbrev pub texts : Texts → Attribute → Option Expanded
-texts t = text_of (replaced_by t.tokens.now) t.attrs.now
+use Rattle.nif_attributes.specs.declared.tokens.Attribute.{Attribute}
 
 -- the attributes that are expressions
 pub record HasFormulas (text : Attribute → Option Expanded) (f : Formulas) : Type 0 where
@@ -75,14 +68,6 @@ FieldsRead replacing children None = IsTrue (list_any (lacks replacing) (filter 
 FieldsRead replacing children (Some fields) =
     (list_any (lacks replacing) (filter is_field children) ≡ false)
     × AllZip (λ child. IsField (text_of replacing (attrs_of child))) (filter is_field children) (map field fields)
-
--- a row of a table as plain data
-abbrev pub row_of : Bor (List ℕ) × Leaf → Text × Leaf
-row_of row = (row.0.now, row.1)
-
--- the leaf of the first row that has this name
-abbrev pub leaf_in : Text → List (Text × Leaf) → Option Leaf
-leaf_in name rows = option_map (λ row. row.1) (find (λ row. bytes_eq name row.0) rows)
 
 -- the bit members among children, or none where one of them lacks its name
 abbrev pub MembersRead : List Tree → Option (List BitMember) → Type 0

@@ -1,6 +1,3 @@
-pub mod Tokens
-pub mod Listing
-pub mod Attributes
 pub mod Fields
 pub mod Declarations
 pub mod Schemas

@@ -1,19 +1,18 @@
 -- The schema that a tree of elements declares, or its first fault.
-use Rattle.std.specs.Prelude.{ℕ, ◌+◌, ◌≡◌, Bool, true, false, ◌&&◌, if◌then◌else◌, List, [], ◌∷◌, ◌++◌, codes, bytes_eq, None, Some, map}
+use Rattle.std.specs.Prelude.{ℕ, ◌+◌, ◌≡◌, Bool, ◌&&◌, if◌then◌else◌, List, [], ◌∷◌, ◌++◌, codes, bytes_eq, None, Some}
 use Rattle.std.specs.declared.option.Option.{Option}
 use Rattle.std.specs.Option.{option_or, option_map}
 use Rattle.std.specs.List.{list_any, filter_map, AllZip}
 use Rattle.nif_text.specs.Tree.{Tree, name_of, attrs_of, children_of}
 use Rattle.nif_text.specs.Documents.{Written, Unwritten, IsAfter}
-use Rattle.nif_schema.specs.Declaration.{Declaration}
 use Rattle.nif_schema.specs.Schema.{Schema}
 use Rattle.nif_schema.specs.declared.faults.SchemaFault.{SchemaFault}
 use Rattle.nif_schema.specs.declared.faults.SchemaFault.TheVariants as faults
-use Rattle.nif_read.specs.Tokens.{groups_of, has_refused}
-use Rattle.nif_read.specs.declared.tokens.Expanded.{Expanded}
-use Rattle.nif_read.specs.Attributes.{Text, replaced_by}
+use Rattle.nif_attributes.specs.Tokens.{groups_of, has_refused}
+use Rattle.nif_attributes.specs.declared.tokens.Expanded.{Expanded}
+use Rattle.nif_attributes.specs.Attributes.{Text, replaced_by}
 use Rattle.nif_read.specs.Declarations.{form_of, name_in, IsDeclaration, has_nameless}
-use Rattle.nif_read.specs.declared.tokens.Attribute.{Attribute}
+use Rattle.nif_attributes.specs.declared.tokens.Attribute.{Attribute}
 use Rattle.nif_read.specs.declared.forms.Form.{Form}
 
 abbrev pub is_group : Tree → Bool

@@ -2,17 +2,17 @@
 ghost use Rattle.std.specs.Prelude.{◌≡◌, ◌^◌, ◌<◌, Some, length, IfOk};
 ghost use Rattle.std.specs.Option.{option_map};
 ghost use Rattle.nif_text.specs.Tree.{attrs_of, children_of};
-ghost use Rattle.nif_read.specs.Attributes.{given, replaced_by};
+ghost use Rattle.nif_attributes.specs.Attributes.{given, replaced_by};
 ghost use Rattle.nif_read.specs.Declarations.{name_in, is_abstract};
 ghost use Rattle.nif_read.specs.Kept.{WhatRead, DeclarationRead};
 
-use crate::attributes::given;
 use crate::elements::{attrs_of, children_of};
 use crate::fields::own_fields;
 use crate::forms::Form;
-use crate::leaves::leaf_of;
 use crate::members::members;
-use crate::tokens::Tokens;
+use nif_attributes::attributes::given;
+use nif_attributes::leaves::leaf_of;
+use nif_attributes::tokens::Tokens;
 use nif_base::{NoMemory, Word};
 use nif_schema::{BitMembers, Decl, What};
 use nif_text::{Attrs, Element};

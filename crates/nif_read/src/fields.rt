@@ -1,18 +1,20 @@
 //! Fields of structs and block types.
 ghost use Rattle.std.specs.Prelude.{◌≡◌, ◌^◌, ◌<◌, false, length, IfOk, IsTrue, MatchOption};
 ghost use Rattle.nif_schema.specs.Declaration.{formula};
-ghost use Rattle.nif_read.specs.Fields.{Either, IsFormula, width_of};
+ghost use Rattle.nif_attributes.specs.Texts.{Either, IsFormula};
+ghost use Rattle.nif_read.specs.Fields.{width_of};
 ghost use Rattle.nif_read.specs.Declarations.{is_field};
-ghost use Rattle.nif_read.specs.Attributes.{replaced_by};
-ghost use Rattle.nif_read.specs.Kept.{texts, FieldRead, FieldsRead, OwnFieldsRead, HasFormulas, HasVersions, HasTypes, HasNames};
-ghost use Rattle.nif_read.specs.declared.tokens.Attribute.TheVariants as the;
+ghost use Rattle.nif_attributes.specs.Attributes.{replaced_by};
+ghost use Rattle.nif_attributes.specs.Texts.{texts};
+ghost use Rattle.nif_read.specs.Kept.{FieldRead, FieldsRead, OwnFieldsRead, HasFormulas, HasVersions, HasTypes, HasNames};
+ghost use Rattle.nif_attributes.specs.declared.tokens.Attribute.TheVariants as the;
 ghost use Rattle.std.specs.Option.{option_map, is_some};
 ghost use Rattle.nif_text.specs.Tree.{children_of};
 
 use crate::elements::{attrs_of, children_of, name_of};
 use crate::forms::Form;
-use crate::texts::Texts;
-use crate::tokens::{Attribute, Tokens};
+use nif_attributes::texts::Texts;
+use nif_attributes::tokens::{Attribute, Tokens};
 use nif_base::{NoMemory, Word};
 use nif_schema::{Bound, Exact, Field, Fields, Formula};
 use nif_text::Element;

@@ -1,14 +1,14 @@
 //! Members of bitfields.
 ghost use Rattle.std.specs.Prelude.{◌≡◌, ◌^◌, ◌<◌, ◌≤◌, false, None, Some, length, IfOk, IfSome, MatchOption, option_and_then};
 ghost use Rattle.std.specs.Option.{option_map};
-ghost use Rattle.nif_read.specs.Attributes.{given};
-ghost use Rattle.nif_read.specs.Fields.{decimal};
+ghost use Rattle.nif_attributes.specs.Attributes.{given};
+ghost use Rattle.nif_attributes.specs.Texts.{decimal};
 ghost use Rattle.nif_read.specs.Declarations.{is_member, name_in, member_of};
 ghost use Rattle.nif_read.specs.Kept.{MembersRead};
 
-use crate::attributes::given;
 use crate::elements::{attrs_of, name_of};
-use crate::numbers::decimal;
+use nif_attributes::attributes::given;
+use nif_attributes::numbers::decimal;
 use nif_base::{NoMemory, Word};
 use nif_schema::{BitMember, BitMembers};
 use nif_text::{Attrs, Element};

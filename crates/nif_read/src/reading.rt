@@ -2,15 +2,15 @@
 ghost use Rattle.std.specs.Prelude.{◌≡◌, ◌+◌, ◌-◌, ◌^◌, ◌<◌, ◌≤◌, [], length, map, None, Some, All, OnOk, IfOk, IfErr};
 ghost use Rattle.nif_text.specs.Tree.{Tree, elements, children_of};
 ghost use Rattle.nif_text.specs.Documents.{Written};
-ghost use Rattle.nif_read.specs.Attributes.{replaced_by};
+ghost use Rattle.nif_attributes.specs.Attributes.{replaced_by};
 ghost use Rattle.nif_read.specs.Schemas.{Declares, IsRefused, AreDeclared, group_fault, fault_as, fault_at, first_fault, fault_of};
 ghost use Rattle.nif_read.specs.Kept.{Stepped, IsFaultOf, StepAs};
 
-use crate::attributes::given;
 use crate::declarations::declaration;
 use crate::elements::{attrs_of, children_of, name_of};
 use crate::forms::{Form, form_of};
-use crate::tokens::{Tokens, has_refused_child};
+use nif_attributes::attributes::given;
+use nif_attributes::tokens::{Tokens, has_refused_child};
 use nif_base::{NoMemory, Word};
 use nif_schema::{Schema, SchemaFault};
 use nif_text::laws::few_elements;

@@ -3,7 +3,7 @@ use Rattle.std.specs.List.{filter}
 use Rattle.nif_text.specs.Tree.{Tree, attrs_of}
 use Rattle.nif_schema.specs.Declaration.{field}
 use Rattle.nif_schema.specs.declared.fields.Field as kept
-use Rattle.nif_read.specs.Attributes.{Attrs, text_of, replaced_by}
+use Rattle.nif_attributes.specs.Attributes.{Attrs, text_of, replaced_by}
 use Rattle.nif_read.specs.Fields.{IsField, is_nameless}
 use Rattle.nif_read.specs.Declarations.{is_field}
 use Rattle.nif_read.specs.Kept.{lacks}

@@ -1,6 +1,6 @@
 use Rattle.nif_schema.specs.Declaration.{field}
 use Rattle.nif_text.specs.Tree.{attrs_of}
-use Rattle.nif_read.specs.Attributes.{text_of, replaced_by}
+use Rattle.nif_attributes.specs.Attributes.{text_of, replaced_by}
 use Rattle.nif_read.specs.Fields.{IsField}
 use Rattle.nif_read.specs.Declarations.{is_field}
 use Rattle.nif_read.specs.Kept.{lacks}

@@ -3,7 +3,7 @@ use Rattle.std.specs.Option.{is_none}
 use Rattle.std.specs.List.{filter}
 use Rattle.nif_text.specs.Tree.{Tree, attrs_of}
 use Rattle.nif_schema.specs.declared.members.BitMember.{BitMember}
-use Rattle.nif_read.specs.Attributes.{Attrs}
+use Rattle.nif_attributes.specs.Attributes.{Attrs}
 use Rattle.nif_read.specs.Declarations.{is_member, name_in, member_of}
 use Rattle.nif_read.proofs.Loops.{SoFar, skipped, pushed, none_lacks, all_done, mapped}
 use Rattle.nif_read.proofs.members.members.Goals as goal

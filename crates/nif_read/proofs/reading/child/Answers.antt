@@ -1,6 +1,6 @@
 use Rattle.std.proofs.Common.{◌≡◌, Some, None, refl, sym, ap, ◌∙◌, map}
 use Rattle.nif_text.specs.Tree.{name_of}
-use Rattle.nif_read.specs.Attributes.{replaced_by}
+use Rattle.nif_attributes.specs.Attributes.{replaced_by}
 use Rattle.nif_read.specs.Declarations.{form_of}
 use Rattle.nif_read.proofs.Walk.{steps, faults_at, passed}
 use Rattle.nif_read.proofs.reading.child.Goals as goal

@@ -1,6 +1,6 @@
 use Rattle.std.proofs.Common.{◌≡◌, ◌≤◌, [], length, map, sym, ap, arith}
 use Rattle.nif_schema.specs.Schema.{Schema}
-use Rattle.nif_read.specs.Attributes.{replaced_by}
+use Rattle.nif_attributes.specs.Attributes.{replaced_by}
 use Rattle.nif_read.specs.Schemas.{first_fault}
 use Rattle.nif_read.proofs.Walk.{declared-none, rest-step, done-step, few-step}
 use Rattle.nif_read.proofs.reading.declarations.Goals as goal

@@ -1,5 +1,5 @@
 use Rattle.std.proofs.Common.{◌≡◌, ◌≤◌, [], length, take, drop, map}
-use Rattle.nif_read.specs.Attributes.{replaced_by}
+use Rattle.nif_attributes.specs.Attributes.{replaced_by}
 use Rattle.nif_read.specs.Schemas.{first_fault, AreDeclared}
 use Rattle.nif_read.proofs.reading.declarations.Given as goal
 

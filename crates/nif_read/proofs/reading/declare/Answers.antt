@@ -1,7 +1,7 @@
 use Rattle.std.proofs.Common.{◌≡◌, Some, Bool, true, false, map, sym, ap, ◌∙◌, rules, arith}
 use Rattle.std.proofs.lemmas.Grind.{common_steps}
 use Rattle.nif_text.specs.Tree.{attrs_of}
-use Rattle.nif_read.specs.Attributes.{replaced_by}
+use Rattle.nif_attributes.specs.Attributes.{replaced_by}
 use Rattle.nif_read.specs.Declarations.{name_in, has_nameless}
 use Rattle.nif_read.proofs.Faults.{duplicate, lacking, sound}
 use Rattle.nif_read.proofs.Found.{found}

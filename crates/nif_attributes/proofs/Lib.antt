@@ -1,0 +1,4 @@
+pub mod Replacing
+pub mod Groups
+pub mod Decimals
+pub mod LeafLemmas

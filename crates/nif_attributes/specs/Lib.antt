@@ -1,0 +1,5 @@
+pub mod Tokens
+pub mod Listing
+pub mod Attributes
+pub mod Texts
+pub mod Leaves

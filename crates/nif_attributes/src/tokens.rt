@@ -1,0 +1,417 @@
+//! Token groups: texts that stand for others in the attributes of fields.
+ghost use Rattle.std.specs.Prelude.{◌≡◌, ℕ, ◌+◌, ◌<◌, ◌≤◌, Bool, true, false, IsTrue, ◌⊎◌, List, [], ◌∷◌, ◌++◌, length, map, codes, Option, IfOk, OnOk, MatchOption, vec_len};
+ghost use Rattle.std.specs.List.{list_any, filter_map, slice_split};
+ghost use Rattle.std.specs.Option.{option_map, is_none};
+ghost use Rattle.std.specs.Str.{bytes_eq};
+ghost use Rattle.nif_text.specs.Tree.{name_of, attrs_of, children_of};
+ghost use Rattle.nif_text.specs.Bytes.{is_blank};
+ghost use Rattle.nif_attributes.specs.Tokens.{Group, value_of, token_of, groups_of, has_refused, names_in, replaced, name_of_attribute};
+ghost use Rattle.nif_attributes.specs.Listing.{parts_token, ListAlike, GroupsAlike};
+
+use memchr::memmem;
+use nif_base::{NoMemory, Word};
+use nif_text::{Attrs, Element};
+use std::alloc::Global;
+use std::marker::Model;
+
+/// The most bytes that a text may have after a pass.
+const LIMIT: usize = 4096;
+
+/// An attribute of a field, by its newer name.
+#[derive(Debug, Clone, Copy, PartialEq, Eq)]
+pub enum Attribute {
+    Name,
+    Type,
+    Template,
+    Arg,
+    Length,
+    Width,
+    Cond,
+    Vercond,
+    Since,
+    Until,
+    OnlyT,
+    ExcludeT,
+    Userver,
+    Userver2,
+}
+
+/// All attributes of fields.
+const ATTRIBUTES: [Attribute; 14] = [
+    Attribute::Name,
+    Attribute::Type,
+    Attribute::Template,
+    Attribute::Arg,
+    Attribute::Length,
+    Attribute::Width,
+    Attribute::Cond,
+    Attribute::Vercond,
+    Attribute::Since,
+    Attribute::Until,
+    Attribute::OnlyT,
+    Attribute::ExcludeT,
+    Attribute::Userver,
+    Attribute::Userver2,
+];
+
+/// A text after the passes of tokens. It is too long where a pass would have left it with more than 4,096 bytes:
+/// that pass was not made, nor any after it, and the text is the one from before it.
+#[derive(Drop)]
+pub struct Expanded {
+    pub text: Word,
+    pub too_long: bool,
+}
+
+impl Attribute {
+    ghost use Rattle.nif_attributes.specs.Tokens.{name_of_attribute};
+
+    /// Its name.
+    pub fn name(self) -> &'static [u8]
+        ensures { result.now ≡ name_of_attribute self }
+    {
+        match self {
+            Attribute::Name => b"name",
+            Attribute::Type => b"type",
+            Attribute::Template => b"template",
+            Attribute::Arg => b"arg",
+            Attribute::Length => b"length",
+            Attribute::Width => b"width",
+            Attribute::Cond => b"cond",
+            Attribute::Vercond => b"vercond",
+            Attribute::Since => b"since",
+            Attribute::Until => b"until",
+            Attribute::OnlyT => b"onlyT",
+            Attribute::ExcludeT => b"excludeT",
+            Attribute::Userver => b"userver",
+            Attribute::Userver2 => b"userver2",
+        }
+    }
+}
+
+/// A token and the string that it is replaced by.
+#[derive(Drop)]
+struct Replacement {
+    token: Word,
+    string: Word,
+}
+
+impl Model for Replacement {
+    ghost use Rattle.std.specs.Prelude.{ℕ, ◌<◌, length};
+    ghost use Rattle.nif_attributes.specs.Tokens.{Token};
+
+    ghost Value = { Token };
+
+    ghost view = { λ a. record { token = a.token; string = a.string } };
+
+    ghost invariant = { λ a. 0 < length a.token };
+}
+
+/// The tokens of a group, and the attributes of fields that it lists.
+#[derive(Drop)]
+struct TokenGroup {
+    attributes: Vec<Attribute>,
+    tokens: Vec<Replacement>,
+}
+
+impl Model for TokenGroup {
+    ghost use Rattle.std.specs.Prelude.{map};
+    ghost use Rattle.nif_attributes.specs.Tokens.{Group, name_of_attribute};
+
+    ghost Value = { Group };
+
+    ghost view = { λ a. record { names = map name_of_attribute a.attributes.items; tokens = a.tokens.items } };
+}
+
+/// The token groups of a schema text. Groups without tokens and groups that list no attribute of fields are left
+/// out, and of the names that a group lists those of attributes of fields are kept: contracts see the list of groups
+/// that is left.
+#[derive(Drop)]
+pub struct Tokens {
+    groups: Vec<TokenGroup>,
+}
+
+impl Model for Tokens {
+    ghost use Rattle.std.specs.Prelude.{List};
+    ghost use Rattle.nif_attributes.specs.Tokens.{Group};
+
+    ghost Value = { List Group };
+
+    ghost view = { λ a. a.groups.items };
+}
+
+/// The value of the attribute of this name.
+pub(crate) fn value<'a>(attrs: &'a Attrs, name: &[u8]) -> Option<&'a [u8]>
+    ensures { option_map (λ value. value.now) result ≡ value_of attrs.now name.now }
+{
+    for place in 0..attrs.len() {
+        let (other, value) = attrs.get(place);
+        if other.bytes() == name {
+            return Some(value.bytes());
+        }
+    }
+    None
+}
+
+/// The token and the string of a child of a group, none where the child is refused.
+fn parts(child: &Element) -> Option<(&[u8], &[u8])>
+    ensures { option_map parts_token result ≡ token_of child.now }
+{
+    let token = value(&child.attrs, b"token")?;
+    if token.is_empty() {
+        return None;
+    }
+    let string = value(&child.attrs, b"string")?;
+    Some((token, string))
+}
+
+/// Whether a child of this token group is refused: it lacks `token`, its `token` is empty, or it lacks `string`.
+/// An empty `string` is allowed.
+pub fn has_refused_child(group: &Element) -> bool
+    ensures { result ≡ has_refused group.now }
+{
+    for child in &group.children {
+        if parts(child).is_none() {
+            return true;
+        }
+    }
+    false
+}
+
+fn is_blank_byte(c: u8) -> bool
+    ensures { result ≡ is_blank c }
+{
+    c == b' ' || c == b'\t' || c == b'\n' || c == b'\r'
+}
+
+/// Whether a text lists this name, between blanks.
+fn lists_name(text: &[u8], name: &[u8]) -> bool
+    ensures { result ≡ list_any (bytes_eq name.now) (slice_split is_blank text.now) }
+{
+    text.split(|c| is_blank_byte(*c)).any(|part| part == name)
+}
+
+/// Puts an item behind the others.
+fn push<T: Drop>(items: &mut Vec<T>, item: T) -> Result<(), NoMemory>
+    ensures { OnOk result (items.new.items ≡ items.old.items ++ item ∷ []) }
+{
+    match items.push(item) {
+        Ok(()) => Ok(()),
+        Err(_) => Err(NoMemory),
+    }
+}
+
+/// Puts bytes behind `out`, unless it would then have more than the most bytes. Says whether it did.
+fn push_within(out: &mut Vec<u8>, bytes: &[u8]) -> Result<bool, NoMemory>
+    requires { vec_len out.old ≤ 4096 }
+    ensures put { IfOk result (λ fits. fits ≡ true → (out.new.items ≡ out.old.items ++ bytes.now) × (length out.new.items ≤ 4096)) }
+    ensures full { IfOk result (λ fits. fits ≡ false → 4096 < length out.old.items + length bytes.now) }
+{
+    if bytes.len() > LIMIT - out.len() {
+        return Ok(false);
+    }
+    match out.extend_from_slice(bytes) {
+        Ok(()) => Ok(true),
+        Err(_) => Err(NoMemory),
+    }
+}
+
+/// The text with the token replaced, none where it would have more than the most bytes. The time is linear in the text and the token.
+fn replace(
+    alloc: Global,
+    text: &[u8],
+    token: &[u8],
+    string: &[u8],
+) -> Result<Option<Vec<u8>>, NoMemory>
+    requires { 0 < length token.now }
+    ensures { IfOk result (λ out. MatchOption out (4096 < length (replaced token.now string.now text.now))
+        (λ bytes. (bytes.items ≡ replaced token.now string.now text.now) × (length bytes.items ≤ 4096))) }
+{
+    let mut out = Vec::new(alloc);
+    let mut rest = text;
+    while let Some(place) = memmem::find(rest, token) {
+        let (front, found) = rest.split_at(place);
+        if !push_within(&mut out, front)? {
+            return Ok(None);
+        }
+        if !push_within(&mut out, string)? {
+            return Ok(None);
+        }
+        let (_, behind) = found.split_at(token.len());
+        rest = behind;
+    }
+    if !push_within(&mut out, rest)? {
+        return Ok(None);
+    }
+    Ok(Some(out))
+}
+
+impl Replacement {
+    ghost use Rattle.nif_attributes.specs.Tokens.{pass};
+
+    /// The replacement of a child of a group, none where it is refused.
+    fn of(alloc: Global, child: &Element) -> Result<Option<Replacement>, NoMemory>
+        ensures { IfOk result (λ by. by ≡ token_of child.now) }
+    {
+        let Some((token, string)) = parts(child) else {
+            return Ok(None);
+        };
+        let token = Word::from_bytes(alloc, token)?;
+        let string = Word::from_bytes(alloc, string)?;
+        Ok(Some(Replacement { token, string }))
+    }
+
+    /// One pass over a text.
+    fn pass(&self, alloc: Global, text: &mut Expanded) -> Result<(), NoMemory>
+        ensures { OnOk result (text.new ≡ pass text.old self.now) }
+    {
+        if text.too_long {
+            return Ok(());
+        }
+        match replace(
+            alloc,
+            text.text.bytes(),
+            self.token.bytes(),
+            self.string.bytes(),
+        )? {
+            Some(bytes) => text.text = Word::from_bytes(alloc, bytes.as_slice())?,
+            None => text.too_long = true,
+        }
+        Ok(())
+    }
+}
+
+impl TokenGroup {
+    ghost use Rattle.nif_attributes.specs.Tokens.{pass_group, group_of, name_of_attribute};
+
+    /// The group of an element: of the names that it lists those of attributes of fields.
+    fn of(alloc: Global, element: &Element) -> Result<TokenGroup, NoMemory>
+        ensures attributes { IfOk result (λ group. ListAlike group.names (group_of element.now).names) }
+        ensures tokens { IfOk result (λ group. group.tokens ≡ (group_of element.now).tokens) }
+    {
+        Ok(TokenGroup {
+            attributes: listed(alloc, value(&element.attrs, b"attrs"))?,
+            tokens: replacements(alloc, element.children.as_slice())?,
+        })
+    }
+
+    /// Whether it lists this attribute.
+    fn lists(&self, attribute: Attribute) -> bool
+        ensures { result ≡ list_any (bytes_eq (name_of_attribute attribute)) self.now.names }
+    {
+        for other in &self.attributes {
+            if attribute.name() == other.name() {
+                return true;
+            }
+        }
+        false
+    }
+
+    /// Whether it changes no text of an attribute of fields.
+    fn is_idle(&self) -> bool
+        ensures { result ≡ true → (self.now.names ≡ []) ⊎ (self.now.tokens ≡ []) }
+    {
+        self.attributes.is_empty() || self.tokens.is_empty()
+    }
+
+    /// The passes by all tokens, where it lists the attribute.
+    fn pass(&self, alloc: Global, attribute: Attribute, text: &mut Expanded) -> Result<(), NoMemory>
+        ensures { OnOk result (text.new ≡ pass_group (name_of_attribute attribute) text.old self.now) }
+    {
+        if self.lists(attribute) {
+            for by in &self.tokens {
+                by.pass(alloc, text)?;
+            }
+        }
+        Ok(())
+    }
+}
+
+/// The attributes of fields that `attrs` lists.
+fn listed(alloc: Global, attrs: Option<&[u8]>) -> Result<Vec<Attribute>, NoMemory>
+    ensures { IfOk result (λ attributes. ListAlike (map name_of_attribute attributes.items) (names_in (option_map (λ value. value.now) attrs.entry))) }
+{
+    let mut attributes = Vec::new(alloc);
+    let Some(text) = attrs else {
+        return Ok(attributes);
+    };
+    for attribute in ATTRIBUTES {
+        if lists_name(text, attribute.name()) {
+            push(&mut attributes, attribute)?;
+        }
+    }
+    Ok(attributes)
+}
+
+/// The replacements of the children that are not refused.
+fn replacements(alloc: Global, children: &[Element]) -> Result<Vec<Replacement>, NoMemory>
+    ensures { IfOk result (λ tokens. tokens.items ≡ filter_map token_of children.now) }
+{
+    let mut tokens = Vec::new(alloc);
+    for child in children {
+        if let Some(by) = Replacement::of(alloc, child)? {
+            push(&mut tokens, by)?;
+        }
+    }
+    Ok(tokens)
+}
+
+/// Whether a child of the root is a token group.
+fn is_group(child: &Element) -> bool
+    ensures { result ≡ bytes_eq (name_of child.now) (codes "token") }
+{
+    child.name.bytes() == b"token".as_slice()
+}
+
+/// Puts the group of a child of the root behind the others, unless the child is no group or changes no text.
+fn add_group(alloc: Global, groups: &mut Vec<TokenGroup>, child: &Element) -> Result<(), NoMemory>
+    ensures { OnOk result ((others : List Group) → GroupsAlike groups.old.items others → GroupsAlike groups.new.items (others ++ groups_of (child.now ∷ []))) }
+{
+    if !is_group(child) {
+        return Ok(());
+    }
+    let group = TokenGroup::of(alloc, child)?;
+    if group.is_idle() {
+        return Ok(());
+    }
+    push(groups, group)?;
+    Ok(())
+}
+
+impl Tokens {
+    ghost use Rattle.nif_attributes.specs.Tokens.{ExpandAlike, expanded, name_of_attribute};
+
+    /// The token groups of a schema text, from its root: whatever the groups among the children of the root make of a
+    /// text of an attribute of fields, these make of it.
+    pub fn of(alloc: Global, root: &Element) -> Result<Tokens, NoMemory>
+        ensures { IfOk result (λ tokens. ExpandAlike tokens (groups_of (children_of root.now))) }
+    {
+        let mut groups = Vec::new(alloc);
+        for child in &root.children {
+            add_group(alloc, &mut groups, child)?;
+        }
+        Ok(Tokens { groups })
+    }
+
+    /// The text of an attribute of a field after the passes of all groups that list it, in the order of the schema
+    /// text. A text that no group lists is copied as it is. The time of a pass is linear in the text and the token.
+    pub fn expand(
+        &self,
+        alloc: Global,
+        attribute: Attribute,
+        text: &[u8],
+    ) -> Result<Expanded, NoMemory>
+        ensures { IfOk result (λ out. out ≡ expanded self.now (name_of_attribute attribute) text.now) }
+    {
+        let mut out = Expanded {
+            text: Word::from_bytes(alloc, text)?,
+            too_long: false,
+        };
+        for group in &self.groups {
+            group.pass(alloc, attribute, &mut out)?;
+        }
+        Ok(out)
+    }
+}
+
+#[cfg(test)]
+mod tests;

@@ -1,6 +1,0 @@
-use Rattle.std.proofs.Common.{◌≡◌, take}
-use Rattle.nif_read.specs.Tokens.{expanded, name_of_attribute}
-use Rattle.nif_read.proofs.tokens.Tokens.expand.Given as goal
-
-abbrev pub invariant-loop-group : goal.invariant-loop-group
-invariant-loop-group l = l.out ≡ expanded (take l.group-index l.group-items) (name_of_attribute l.attribute) l.text
