@@ -1,0 +1,160 @@
+-- Tables of names.
+use Rattle.std.proofs.Common.{◌≡◌, ℕ, suc, Bool, true, false, cond, ◌⊎◌, ◌||◌, ltb, List, [], ◌∷◌, ◌++◌, length, map, get_or, set, Option, Some, None, position, bytes_eq, refl, sym, ap, ◌∙◌, true≢false, inl, inr, arith}
+use Rattle.std.specs.List.{list_any, position_or_len}
+use Rattle.std.specs.Option.{option_map}
+use Rattle.std.proofs.lemmas.Grind.{common_steps}
+use Rattle.std.proofs.lemmas.Slice.Eq.{bytes_eq-Decides}
+use Rattle.nif_names.specs.declared.shapes.Shape.{Shape}
+use Rattle.nif_names.specs.Tables.{stack_of}
+
+-- the first place of a list with one more element in front
+pub position-cons : {X : Type 0} (p : X → Bool) (x : X) (xs : List X) → position p (x ∷ xs) ≡ cond (p x) (Some 0) (option_map suc (position p xs))
+position-cons p x xs = by (p x) refl (ltb (position_or_len p xs) (length xs)) refl
+  where
+    by : (b : Bool) → p x ≡ b → (l : Bool) → ltb (position_or_len p xs) (length xs) ≡ l → position p (x ∷ xs) ≡ cond b (Some 0) (option_map suc (position p xs))
+    by true e l h = grind (arith, common_steps)
+    by false e true h = grind (arith, common_steps)
+    by false e false h = grind (arith, common_steps)
+
+-- two names that aren't the same
+pub differ : (name other key : List ℕ) → bytes_eq name key ≡ false → bytes_eq other key ≡ true → bytes_eq other name ≡ false
+differ name other key apart one = by (bytes_eq other name) refl
+  where
+    by : (b : Bool) → bytes_eq other name ≡ b → b ≡ false
+    by false e = refl
+    by true e =
+        let same : other ≡ name = (bytes_eq-Decides other name).0 e in
+        absurd (true≢false (sym one ∙ ap (λ n. bytes_eq n key) same ∙ apart))
+
+-- the head of a list, or a place behind it
+position-cases : {X : Type 0} (p : X → Bool) (x : X) (xs : List X) (i : ℕ) → position p (x ∷ xs) ≡ Some i
+    → ((p x ≡ true) × (i ≡ 0)) ⊎ ((p x ≡ false) × (j : ℕ) × (i ≡ suc j) × (position p xs ≡ Some j))
+position-cases {X} p x xs i e = by (p x) refl (position p xs) refl (sym (position-cons p x xs) ∙ e)
+  where
+    by : (b : Bool) → p x ≡ b → (o : Option ℕ) → position p xs ≡ o → cond b (Some 0) (option_map suc o) ≡ Some i
+        → ((p x ≡ true) × (i ≡ 0)) ⊎ ((p x ≡ false) × (j : ℕ) × (i ≡ suc j) × (position p xs ≡ Some j))
+    by true h o q f = inl (h, (let z : 0 ≡ i = cc in sym z))
+    by false h None q f = absurd (cc)
+    by false h (Some j) q f = inr (h, j, (let z : suc j ≡ i = cc in sym z), q)
+
+module _ {K : Type 0} (bytes : K → List ℕ) (name : List ℕ) where
+  -- the stack at the place of a name
+  pub stack-at : (d : List Shape) (keys : List K) (stacks : List (List Shape)) (i : ℕ) → position (λ k. bytes_eq name (bytes k)) keys ≡ Some i
+      → length keys ≡ length stacks → stack_of name (map bytes keys) stacks ≡ get_or stacks i d
+  stack-at d [] stacks i e same = absurd (cc)
+  stack-at d (k ∷ keys) [] i e same = absurd (omega arith)
+  stack-at d (k ∷ keys) (s ∷ stacks) i e same =
+      elim (position-cases (λ x. bytes_eq name (bytes x)) k keys i e) [
+        | inl (hit, zero_is) ↦ ap (λ b. cond b s (stack_of name (map bytes keys) stacks)) hit ∙ sym (ap (λ n. get_or (s ∷ stacks) n d) zero_is)
+        | inr (miss, j, is, rest) ↦
+            ap (λ b. cond b s (stack_of name (map bytes keys) stacks)) miss
+            ∙ stack-at d keys stacks j rest (omega arith)
+            ∙ sym (ap (λ n. get_or (s ∷ stacks) n d) is)
+      ]
+
+  -- another stack at the place of a name
+  pub stack-set : (other : List ℕ) (new : List Shape) (keys : List K) (stacks : List (List Shape)) (i : ℕ) → position (λ k. bytes_eq name (bytes k)) keys ≡ Some i
+      → length keys ≡ length stacks
+      → stack_of other (map bytes keys) (set stacks i new) ≡ cond (bytes_eq other name) new (stack_of other (map bytes keys) stacks)
+  stack-set other new [] stacks i e same = absurd (cc)
+  stack-set other new (k ∷ keys) [] i e same = absurd (omega arith)
+  stack-set other new (k ∷ keys) (s ∷ stacks) i e same =
+      elim (position-cases (λ x. bytes_eq name (bytes x)) k keys i e) [
+        | inl (hit, zero_is) ↦
+            ap (λ n. stack_of other (map bytes (k ∷ keys)) (set (s ∷ stacks) n new)) zero_is ∙ here (bytes_eq other name) hit
+        | inr (miss, j, is, rest) ↦
+            ap (λ n. stack_of other (map bytes (k ∷ keys)) (set (s ∷ stacks) n new)) is
+            ∙ later (bytes_eq other (bytes k)) refl miss (stack-set other new keys stacks j rest (omega arith))
+      ]
+    where
+      here : (b : Bool) → bytes_eq name (bytes k) ≡ true
+          → cond (bytes_eq other (bytes k)) new (stack_of other (map bytes keys) stacks)
+          ≡ cond (bytes_eq other name) new (cond (bytes_eq other (bytes k)) s (stack_of other (map bytes keys) stacks))
+      here _ hit =
+          let one : name ≡ bytes k = (bytes_eq-Decides name (bytes k)).0 hit in
+          ap (λ x. cond (bytes_eq other x) new (stack_of other (map bytes keys) stacks)) (sym one)
+          ∙ twice (bytes_eq other name) ∙ ap (λ x. cond (bytes_eq other name) new (cond (bytes_eq other x) s (stack_of other (map bytes keys) stacks))) one
+        where
+          twice : (b : Bool) → cond b new (stack_of other (map bytes keys) stacks) ≡ cond b new (cond b s (stack_of other (map bytes keys) stacks))
+          twice true = refl
+          twice false = refl
+
+      later : (b : Bool) → bytes_eq other (bytes k) ≡ b → bytes_eq name (bytes k) ≡ false → {tail : List Shape}
+          → tail ≡ cond (bytes_eq other name) new (stack_of other (map bytes keys) stacks)
+          → cond (bytes_eq other (bytes k)) s tail
+          ≡ cond (bytes_eq other name) new (cond (bytes_eq other (bytes k)) s (stack_of other (map bytes keys) stacks))
+      later true h miss {tail} t =
+          let apart = differ name other (bytes k) miss h in
+          ap (λ b. cond b s tail) h ∙ sym (ap (λ b. cond b new (cond (bytes_eq other (bytes k)) s (stack_of other (map bytes keys) stacks))) apart
+          ∙ ap (λ b. cond b s (stack_of other (map bytes keys) stacks)) h)
+      later false h miss {tail} t =
+          ap (λ b. cond b s tail) h ∙ t ∙ sym (ap (λ b. cond (bytes_eq other name) new (cond b s (stack_of other (map bytes keys) stacks))) h)
+
+  -- a stack of a new name
+  pub stack-push : (other : List ℕ) (new : List Shape) (names : List (List ℕ)) (stacks : List (List Shape)) → list_any (bytes_eq name) names ≡ false
+      → length names ≡ length stacks
+      → stack_of other (names ++ name ∷ []) (stacks ++ new ∷ []) ≡ cond (bytes_eq other name) new (stack_of other names stacks)
+  stack-push other new [] [] none same = refl
+  stack-push other new [] (s ∷ stacks) none same = absurd (omega arith)
+  stack-push other new (n ∷ names) [] none same = absurd (omega arith)
+  stack-push other new (n ∷ names) (s ∷ stacks) none same =
+      by (bytes_eq other n) refl (stack-push other new names stacks (rest (bytes_eq name n) none) (omega arith))
+    where
+      rest : (b : Bool) → (b || list_any (bytes_eq name) names) ≡ false → list_any (bytes_eq name) names ≡ false
+      rest true h = absurd (true≢false h)
+      rest false h = h
+
+      first : (b : Bool) → (b || list_any (bytes_eq name) names) ≡ false → b ≡ false
+      first true h = h
+      first false h = refl
+
+      by : (b : Bool) → bytes_eq other n ≡ b → {tail : List Shape} → tail ≡ cond (bytes_eq other name) new (stack_of other names stacks)
+          → cond (bytes_eq other n) s tail ≡ cond (bytes_eq other name) new (cond (bytes_eq other n) s (stack_of other names stacks))
+      by true h {tail} t =
+          let apart = differ name other n (first (bytes_eq name n) none) h in
+          ap (λ b. cond b s tail) h ∙ sym (ap (λ b. cond b new (cond (bytes_eq other n) s (stack_of other names stacks))) apart
+          ∙ ap (λ b. cond b s (stack_of other names stacks)) h)
+      by false h {tail} t = ap (λ b. cond b s tail) h ∙ t ∙ sym (ap (λ b. cond (bytes_eq other name) new (cond b s (stack_of other names stacks))) h)
+
+  -- a name that isn't there has no shapes
+  pub stack-none : (names : List (List ℕ)) (stacks : List (List Shape)) → list_any (bytes_eq name) names ≡ false → stack_of name names stacks ≡ []
+  stack-none [] stacks none = refl
+  stack-none (n ∷ names) [] none = refl
+  stack-none (n ∷ names) (s ∷ stacks) none = by (bytes_eq name n) none (λ h. stack-none names stacks h)
+    where
+      by : (b : Bool) → (b || list_any (bytes_eq name) names) ≡ false → (list_any (bytes_eq name) names ≡ false → stack_of name names stacks ≡ [])
+          → cond b s (stack_of name names stacks) ≡ []
+      by true h rest = absurd (true≢false h)
+      by false h rest = rest h
+
+  -- a changed stack
+  pub stack-change : (f : List Shape → List Shape) (d : List Shape) (other : List ℕ) (keys : List K) (stacks : List (List Shape)) (i : ℕ)
+      → position (λ k. bytes_eq name (bytes k)) keys ≡ Some i → length keys ≡ length stacks
+      → stack_of other (map bytes keys) (set stacks i (f (get_or stacks i d)))
+      ≡ cond (bytes_eq other name) (f (stack_of other (map bytes keys) stacks)) (stack_of other (map bytes keys) stacks)
+  stack-change f d other keys stacks i e same = stack-set other (f (get_or stacks i d)) keys stacks i e same ∙ by (bytes_eq other name) refl
+    where
+      by : (b : Bool) → bytes_eq other name ≡ b
+          → cond b (f (get_or stacks i d)) (stack_of other (map bytes keys) stacks) ≡ cond b (f (stack_of other (map bytes keys) stacks)) (stack_of other (map bytes keys) stacks)
+      by false h = refl
+      by true h =
+          let one : name ≡ other = sym ((bytes_eq-Decides other name).0 h) in
+          ap f (sym (stack-at d keys stacks i e same) ∙ ap (λ n. stack_of n (map bytes keys) stacks) one)
+
+  -- a first shape
+  pub stack-first : (shape : Shape) (other : List ℕ) (names : List (List ℕ)) (stacks : List (List Shape)) → list_any (bytes_eq name) names ≡ false
+      → length names ≡ length stacks
+      → stack_of other (names ++ name ∷ []) (stacks ++ (shape ∷ []) ∷ [])
+      ≡ cond (bytes_eq other name) (stack_of other names stacks ++ shape ∷ []) (stack_of other names stacks)
+  stack-first shape other names stacks none same = stack-push other (shape ∷ []) names stacks none same ∙ by (bytes_eq other name) refl
+    where
+      by : (b : Bool) → bytes_eq other name ≡ b
+          → cond b (shape ∷ []) (stack_of other names stacks) ≡ cond b (stack_of other names stacks ++ shape ∷ []) (stack_of other names stacks)
+      by false h = refl
+      by true h =
+          let one : name ≡ other = sym ((bytes_eq-Decides other name).0 h) in
+          ap (λ l. l ++ shape ∷ []) (sym (stack-none names stacks none) ∙ ap (λ n. stack_of n names stacks) one)
+
+pub list_any-map : {X Y : Type 0} (p : Y → Bool) (f : X → Y) (xs : List X) → list_any p (map f xs) ≡ list_any (λ x. p (f x)) xs
+list_any-map p f [] = refl
+list_any-map p f (x ∷ xs) = ap (λ b. p (f x) || b) (list_any-map p f xs)

@@ -1,0 +1,25 @@
+-- What a stack of shapes keeps.
+use Rattle.std.specs.Prelude.{ℕ, ◌≡◌, not, if◌then◌else◌, List, [], ◌∷◌, ◌++◌, map, flat_map, count_by, Some, is_none, Contains}
+use Rattle.std.specs.Option.{option_to_list}
+use Rattle.nif_names.specs.declared.shapes.Shape.{Shape}
+use Rattle.nif_names.specs.declared.shapes.Entry.{Entry}
+
+abbrev pub shapes_of : List Entry → List Shape
+shapes_of entries = map (λ e. e.shape) entries
+
+-- the inner type of an entry, where it is new
+abbrev pub new_inner : Entry → List ℕ
+new_inner e = if e.is_new then option_to_list e.shape.inner else []
+
+-- each inner type is that of a new entry, which isn't above it
+abbrev pub IsCovered : List ℕ → List Entry → Type 0
+IsCovered before [] = Unit {0}
+IsCovered before (e ∷ entries) =
+    ((inner : ℕ) → e.shape.inner ≡ Some inner → Contains (before ++ new_inner e) inner) × IsCovered (before ++ new_inner e) entries
+
+pub record IsStack (entries : List Entry) (inners : List ℕ) (not_numbers not_rows not_inner : ℕ) : Type 0 where
+  pub numbers : not_numbers ≡ count_by (λ s. not s.number) (shapes_of entries)
+  pub rows : not_rows ≡ count_by (λ s. not s.row) (shapes_of entries)
+  pub inner : not_inner ≡ count_by (λ s. is_none s.inner) (shapes_of entries)
+  pub new : inners ≡ flat_map new_inner entries
+  pub covered : IsCovered [] entries

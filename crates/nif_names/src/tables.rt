@@ -1,0 +1,102 @@
+//! Tables of names.
+ghost use Rattle.std.specs.Prelude.{◌≡◌, ◌≢◌, ℕ, List, ◌-◌, ◌<◌, [], ◌∷◌, ◌++◌, length, take, bytes_eq, if◌then◌else◌, false, OnOk, IfSome};
+ghost use Rattle.std.specs.Option.{option_map_or};
+ghost use Rattle.std.specs.List.{list_any};
+ghost use Rattle.nif_names.specs.Tables.{held};
+
+use crate::shapes::{Shape, Shapes};
+use indexmap::IndexSet;
+use nif_base::NoMemory;
+use std::alloc::Global;
+use std::marker::Model;
+
+/// A stack of shapes under each name. Names are found by their hashes, and a name whose stack is empty stays.
+#[derive(Drop)]
+pub struct Names {
+    alloc: Global,
+    names: IndexSet<Vec<u8>>,
+    stacks: Vec<Shapes>,
+}
+
+impl Model for Names {
+    ghost use Rattle.std.specs.Prelude.{◌≡◌, map, length};
+    ghost use Rattle.nif_names.specs.Tables.{Table};
+
+    ghost Value = { Table };
+
+    ghost view = { λ a. record { names = map (λ k. k.items) a.names.keys; stacks = a.stacks.items } };
+
+    ghost invariant = { λ a. length a.names.keys ≡ length a.stacks.items };
+}
+
+impl Names {
+    /// A table of no names. It takes no memory.
+    pub fn new(alloc: Global) -> Names
+        ensures { (name : List ℕ) → held result name ≡ [] }
+    {
+        Names {
+            alloc,
+            names: IndexSet::new(alloc),
+            stacks: Vec::new(alloc),
+        }
+    }
+
+    /// The shapes under a name, if there are any.
+    pub fn look(&self, name: &[u8]) -> Option<&Shapes>
+        ensures value { option_map_or (λ shapes. shapes.now) result [] ≡ held self.now name.now }
+        ensures some { IfSome result (λ shapes. shapes.now ≢ []) }
+    {
+        let place = self.names.get_index_of(name)?;
+        let shapes = &self.stacks[place];
+        if shapes.is_empty() {
+            None
+        } else {
+            Some(shapes)
+        }
+    }
+
+    /// Puts a shape on the stack of a name.
+    pub fn push(&mut self, name: &[u8], shape: Shape) -> Result<(), NoMemory>
+        ensures { OnOk result ((other : List ℕ) → held self.new other ≡ (if bytes_eq other name.now then held self.old other ++ shape ∷ [] else held self.old other)) }
+    {
+        let place = match self.names.get_index_of(name) {
+            Some(place) => place,
+            None => return self.push_first(name, shape),
+        };
+        let stack = &mut self.stacks[place];
+        stack.push(shape)
+    }
+
+    /// Puts a shape on the stack of a name that isn't there yet.
+    fn push_first(&mut self, name: &[u8], shape: Shape) -> Result<(), NoMemory>
+        requires { list_any (bytes_eq name.now) self.old.names ≡ false }
+        ensures { OnOk result ((other : List ℕ) → held self.new other ≡ (if bytes_eq other name.now then held self.old other ++ shape ∷ [] else held self.old other)) }
+    {
+        let mut stack = Shapes::new(self.alloc);
+        let Ok(()) = stack.push(shape) else {
+            return Err(NoMemory);
+        };
+        let Ok(name) = Vec::from_slice(self.alloc, name) else {
+            return Err(NoMemory);
+        };
+        let Ok(()) = self.stacks.push(stack) else {
+            return Err(NoMemory);
+        };
+        let Ok(_) = self.names.insert(name) else {
+            self.stacks.pop();
+            return Err(NoMemory);
+        };
+        Ok(())
+    }
+
+    /// Takes the top off the stack of a name, if there is one.
+    pub fn pop(&mut self, name: &[u8])
+        ensures { (other : List ℕ) → held self.new other ≡ (if bytes_eq other name.now then take (length (held self.old other) - 1) (held self.old other) else held self.old other) }
+    {
+        let Some(place) = self.names.get_index_of(name) else {
+            return;
+        };
+        let stack = &mut self.stacks[place];
+        stack.pop();
+    }
+}
