@@ -1,2 +1,3 @@
+mod AlikeLemmas
 pub mod ShapeLemmas
 pub mod TableLemmas
