@@ -69,6 +69,7 @@ pub fn read_at_most<S: Source>(
 /// Reads to the end. It takes at most one byte more than `most`, which decides every answer.
 pub fn read_all<S: Source>(alloc: Global, source: &mut S, most: u32) -> Result<Vec<u8>, AllFault>
     ensures bytes { AnswersAll (S.left source.old) most result }
+    ensures bound { IfOk result (λ v. vec_len v ≤ most) }
     ensures end { OnOk result (IsAtEnd (S.left source.new)) }
     ensures taken { TakesAtMost (most + 1) (S.left source.old) (S.left source.new) }
     ensures cause { ReadCause (S.read_faults source.old) (S.read_faults source.new) result }

@@ -168,3 +168,8 @@ pub data IsReason (schema : Schema) (number : ℕ) : Option Closed → Type 0 wh
   Open : IsOpen schema number → IsReason schema number None
   Own : (reason : Closed) → own_reason schema number ≡ Some reason → IsReason schema number (Some reason)
   Uses : own_reason schema number ≡ None → ReachesClosed schema number → IsReason schema number (Some C0)
+
+-- the reasons of all types, in the order of the schema
+pub record AreReasons (schema : Schema) (reasons : List (Option Closed)) : Type 0 where
+  pub number : length reasons ≡ length schema
+  pub each : (k : ℕ) (reason : Option Closed) → slice_get reasons k ≡ Some reason → IsReason schema k reason

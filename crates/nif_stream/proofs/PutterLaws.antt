@@ -1,9 +1,9 @@
 -- How calls that put bytes through one putter join.
-use Rattle.std.proofs.Common.{◌≡◌, ℕ, List, [], ◌++◌, length, length-append, take, drop, ap, sym, ◌∙◌, append_assoc, append-nil, refl, subst}
+use Rattle.std.proofs.Common.{◌≡◌, ℕ, List, [], ◌++◌, length, length-append, take, drop, ap, sym, ◌∙◌, append_assoc, append-nil, refl, subst, arith}
 use Rattle.std.proofs.lemmas.List.{take_at, take-append-drop}
 use Rattle.std.proofs.Math.Seq.{take-append_seam, take-append-add}
 use Rattle.nif_stream.specs.declared.putters.Putter.{Putter}
-use Rattle.nif_stream.specs.Putting.{HasTaken, HasPut, Adds, AddsPart}
+use Rattle.nif_stream.specs.Putting.{HasTaken, HasPut, Adds, AddsPart, Puts, Fails}
 
 -- a beginning, from what it is joined of
 pub taken_first : {K : Type 0} (grew : K → List ℕ → K → Type 0) (a b : K) (x y all : List ℕ) → grew a x b → x ++ y ≡ all → HasTaken grew a b all
@@ -61,3 +61,32 @@ unfolding AddsPart
 taken_part grew start a b all x z h p e = subst (λ l. HasTaken grew start b.sink.now l) e (p start all h)
 
 pub ruleset puts = (adds_none, adds_joined, adds_append, adds_part, adds_part_append, part_more, put_more, taken_part, append_assoc, append-nil, take-append_seam, take-append-add, length-append)
+
+-- calls put bytes, and then more
+pub puts_more : {K : Type 0} (grew : K → List ℕ → K → Type 0) (faults : K → ℕ) (a b c : Putter K) (x y z : List ℕ) → Puts grew faults a x b → Puts grew faults b y c → x ++ y ≡ z → Puts grew faults a z c
+puts_more grew faults a b c x y z p q e = record {
+  same_reference = q.same_reference ∙ p.same_reference;
+  later = omega (arith, p.later, q.later);
+  sound = q.sound;
+  adds = adds_joined grew a b c x y z p.adds q.adds e;
+}
+
+-- calls put bytes, and then one failed before all was put
+pub fails_more : {K : Type 0} (grew : K → List ℕ → K → Type 0) (faults : K → ℕ) (a b c : Putter K) (x y w z : List ℕ) → Puts grew faults a x b → Fails grew faults b y c → (x ++ y) ++ w ≡ z → Fails grew faults a z c
+fails_more grew faults a b c x y w z p q e = record {
+  same_reference = q.same_reference ∙ p.same_reference;
+  later = omega (arith, p.later, q.later);
+  failed = q.failed;
+  rose = λ _. let r = q.rose p.sound in omega (arith, p.later, r);
+  adds_part = part_before grew a c (x ++ y) w z (adds_part grew a b c x y (x ++ y) p.adds q.adds_part refl) e;
+}
+
+-- a call failed before more was put
+pub fails_before : {K : Type 0} (grew : K → List ℕ → K → Type 0) (faults : K → ℕ) (a b : Putter K) (x w z : List ℕ) → Fails grew faults a x b → x ++ w ≡ z → Fails grew faults a z b
+fails_before grew faults a b x w z p e = record {
+  same_reference = p.same_reference;
+  later = p.later;
+  failed = p.failed;
+  rose = p.rose;
+  adds_part = part_before grew a b x w z p.adds_part e;
+}

@@ -1,7 +1,8 @@
 use Rattle.std.proofs.Common.{ap, ◌∙◌, ◌++◌, arith, take, drop, suc}
 use Rattle.std.specs.List.{flat_map}
 use Rattle.nif_file.specs.First.{block}
-use Rattle.nif_file.proofs.FirstPuts.{flat_more, flat_rest, puts_more, fails_more}
+use Rattle.nif_file.proofs.FirstPuts.{flat_more, flat_rest}
+use Rattle.nif_stream.proofs.PutterLaws.{puts_more, fails_more}
 use Rattle.nif_file.proofs.first.put_blocks.Goals as goal
 
 pub returns-in-Err-clause-err : goal.returns-in-Err-clause-err

@@ -1,7 +1,7 @@
 use Rattle.std.proofs.Common.{refl, ◌++◌, length}
 use Rattle.std.specs.List.{flat_map}
 use Rattle.nif_file.specs.First.{word, body}
-use Rattle.nif_file.proofs.FirstPuts.{fails_before}
+use Rattle.nif_stream.proofs.PutterLaws.{fails_before}
 use Rattle.nif_file.proofs.first.put_file.Goals as goal
 
 pub returns-in-Err-clause-err : goal.returns-in-Err-clause-err
