@@ -45,7 +45,7 @@ nonempty (s ∷ of) ks same all some = by s.inner refl all
     by None e h = absurd (true≢false (sym h))
     by (Some k) e h =
         let here : Contains (inners (s ∷ of)) k =
-            Contains-append_left (option_to_list s.inner) (inners of) k (subst (λ o. Contains (option_to_list o) k) (sym e) (0, omega arith, refl)) in
+        Contains-append_left (option_to_list s.inner) (inners of) k (subst (λ o. Contains (option_to_list o) k) (sym e) (0, omega arith, refl)) in
         let there = (same k).1 here in
         let h = there.1 in omega (arith, h)
 

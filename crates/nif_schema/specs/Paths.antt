@@ -103,8 +103,8 @@ abbrev pub rest_reason : Schema → List Meaning → List Name → Option Closed
 rest_reason schema meanings [] = if list_all (ends_path schema) meanings then None else Some C6
 rest_reason schema meanings (name ∷ names) =
     if list_all (goes_on schema) meanings then
-      if list_any (λ m. is_empty (inside schema name m)) meanings then Some C5
-      else rest_reason schema (flat_map (inside schema name) meanings) names
+    if list_any (λ m. is_empty (inside schema name m)) meanings then Some C5
+    else rest_reason schema (flat_map (inside schema name) meanings) names
     else Some C6
 
 -- The names of the header, which stand where no earlier field has the first name.

@@ -77,9 +77,9 @@ reference_template_reason schema in_struct (Some name) = reason_where C8 (not (n
 abbrev pub template_reason : Schema → Bool → Field → Option Closed
 template_reason schema in_struct f =
     option_map_or (λ number.
-      if is_generic schema number then generic_template_reason schema in_struct f.template
-      else if option_map_or is_reference (what_at schema number) false then reference_template_reason schema in_struct f.template
-      else None) (named schema f.kind) None
+    if is_generic schema number then generic_template_reason schema in_struct f.template
+    else if option_map_or is_reference (what_at schema number) false then reference_template_reason schema in_struct f.template
+    else None) (named schema f.kind) None
 
 -- C11: `since` or `until` is no version
 abbrev pub is_bad_bound : Option Bound → Bool
@@ -171,5 +171,5 @@ pub data IsReason (schema : Schema) (number : ℕ) : Option Closed → Type 0 wh
 
 -- the reasons of all types, in the order of the schema
 pub record AreReasons (schema : Schema) (reasons : List (Option Closed)) : Type 0 where
-  pub number : length reasons ≡ length schema
+  pub count : length reasons ≡ length schema
   pub each : (k : ℕ) (reason : Option Closed) → slice_get reasons k ≡ Some reason → IsReason schema k reason

@@ -151,18 +151,19 @@ refers _ = false
 
 -- ---- the rules; where `fields` are spoken of, those are the fields of Header
 
--- A struct of this name is declared; it takes no template and is open.
-pub record IsRoot (schema : Schema) (name : Name) : Type 0 where
-  pub number : ℕ
+-- The declaration of this name is a struct that takes no template and is open.
+pub record IsRoot (schema : Schema) (name : Name) (number : ℕ) : Type 0 where
   pub found : find schema name ≡ Some number
   pub declared : what_at schema number ≡ Some Struct
   pub single : is_generic schema number ≡ false
-  pub open_ : IsOpen schema number
+  pub opens : IsOpen schema number
 
 -- 1. `Header` and `Footer` are declared structs that take no template, and both are open.
 pub record HasRoots (schema : Schema) : Type 0 where
-  pub header : IsRoot schema (codes "Header")
-  pub footer : IsRoot schema (codes "Footer")
+  pub header : ℕ
+  pub footer : ℕ
+  pub is_header : IsRoot schema (codes "Header") header
+  pub is_footer : IsRoot schema (codes "Footer") footer
 
 -- 2. Header begins with `Header String` of the basic `HeaderString`, with no other attribute.
 unfoldable pub has_line : Schema → List Field → Bool
