@@ -12,3 +12,4 @@ pub mod OpenKnown
 pub mod Theorems
 pub mod Examples
 pub mod DefinedValues
+pub mod Depth

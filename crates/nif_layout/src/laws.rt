@@ -1,10 +1,13 @@
 //! Laws of values, over the definitions alone.
-ghost use Rattle.std.specs.Prelude.{ℕ, List, Contains};
+ghost use Rattle.std.specs.Prelude.{◌≤◌, ℕ, List, Contains};
 ghost use Rattle.std.specs.declared.option.Option.{Option};
 ghost use Rattle.nif_schema.specs.Declaration.{Field};
 ghost use Rattle.nif_schema.specs.Schema.{Schema, line};
 ghost use Rattle.nif_layout.specs.Context.{Context};
 ghost use Rattle.nif_layout.specs.Earlier.{Env};
+ghost use Rattle.nif_layout.specs.Kind.{Kind};
+ghost use Rattle.nif_layout.specs.Shape.{Shape};
+ghost use Rattle.nif_base.specs.Node.{Node, depth};
 ghost use Rattle.nif_layout.specs.Form.{Form, form_of};
 ghost use Rattle.nif_layout.specs.Fault.{Fault};
 ghost use Rattle.nif_layout.specs.Members.{Check};
@@ -51,4 +54,9 @@ pub fn line_spelled_or_fails<W>()
 /// read of the fields before it; and a `width` that is the bare name of an array names arrays of numbers alone.
 pub fn all_defined()
     ensures { (S : Schema) (number : ℕ) → IsOpenType S number → AllDefined S number }
+{}
+
+/// Groups lie no deeper in a value than its bound.
+pub fn depth_within()
+    ensures { (S : Schema) (C : Context) (d : ℕ) (kind : Kind) (at : Node) → Shape S C d kind at → depth at ≤ d }
 {}
