@@ -316,8 +316,8 @@ FirstFails (rule ∷ rules) zero = ⊥
 FirstFails (rule ∷ rules) (suc zero) = ¬ rule
 FirstFails (rule ∷ rules) (suc (suc number)) = rule × FirstFails rules (suc number)
 
-abbrev pub RoleFault : Schema → ℕ → Type 0
-RoleFault schema number = FirstFails (
+abbrev pub rules : Schema → List (Type 0)
+rules schema =
     HasRoots schema
     ∷ IsTrue (has_line schema (header_fields schema))
     ∷ IsTrue (has_version schema (header_fields schema))
@@ -327,4 +327,7 @@ RoleFault schema number = FirstFails (
     ∷ IsTrue (has_sized_strings schema (header_fields schema))
     ∷ IsTrue (has_independent_fields (header_fields schema))
     ∷ RefersNowhere schema
-    ∷ []) number
+    ∷ []
+
+abbrev pub RoleFault : Schema → ℕ → Type 0
+RoleFault schema number = FirstFails (rules schema) number
