@@ -1,0 +1,5 @@
+pub mod Runs
+pub mod Layouts
+pub mod Changes
+pub mod Standing
+pub mod Slid
