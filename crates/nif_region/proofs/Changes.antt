@@ -71,10 +71,10 @@ module _ {building live : ℕ} {cells : List Cell} {places : Slab ℕ} (k : IsKe
         laid = laid;
         live_are = live-kept ∙ ap cells_of (sym (runs_in-laid more new new_places laid));
         bound =
-          let l = length-kept in
-          let e = ap length is in
-          let b = k.bound in
-          omega (arith, length-append (layout k.laid.ended) last);
+            let l = length-kept in
+            let e = ap length is in
+            let b = k.bound in
+            omega (arith, length-append (layout k.laid.ended) last);
         fits = fits;
         room = room;
       }
@@ -111,9 +111,9 @@ patched-built (suc more) cells place cell l p =
     let at : length cells - suc more + 1 + place ≡ (length cells - more) + place = omega arith in
     let long : length (slice_set cells (length cells - suc more + 1 + place) cell) - more ≡ length cells - more = omega (arith, length-set cells (length cells - suc more + 1 + place) cell) in
     ap Some (
-      ap (λ n. drop n (slice_set cells (length cells - suc more + 1 + place) cell)) long
-      ∙ ap (λ n. drop (length cells - more) (slice_set cells n cell)) at
-      ∙ drop-set-add (length cells - more) cells place cell
+    ap (λ n. drop n (slice_set cells (length cells - suc more + 1 + place) cell)) long
+    ∙ ap (λ n. drop (length cells - more) (slice_set cells n cell)) at
+    ∙ drop-set-add (length cells - more) cells place cell
     )
 
 -- a run is ended
@@ -145,8 +145,7 @@ apart-more [] key run apart none = (refl, tt)
 apart-more (r ∷ rest) key run apart none = elim (eqb_tells r.0 key) [
   | inl e ↦ absurd (let hit : (if true then Some r.1 else find rest key) ≡ None = rw e.0 at none in cc)
   | inr e ↦
-      let other : find ((key, run) ∷ []) r.0 ≡ None = find-one_other key r.0 run e.1 in
-      (
+      let other : find ((key, run) ∷ []) r.0 ≡ None = find-one_other key r.0 run e.1 in (
         find-append rest ((key, run) ∷ []) r.0 ∙ ap (λ o. option_or o (find ((key, run) ∷ []) r.0)) apart.0 ∙ other,
         apart-more rest key run apart.1 (rw e.0 at none),
       )
@@ -156,9 +155,9 @@ pub built-behind : (front : List Cell) (first : Cell) (rest : List Cell) → bui
 built-behind front first rest =
     let count : length (front ++ first ∷ rest) - length rest ≡ length (front ++ first ∷ []) = omega (arith, length-append front (first ∷ rest), length-append front (first ∷ [])) in
     ap Some (
-      ap (λ n. drop n (front ++ first ∷ rest)) count
-      ∙ ap (λ c. drop (length (front ++ first ∷ [])) c) (sym (append_assoc front (first ∷ []) rest))
-      ∙ drop-append_seam (front ++ first ∷ []) rest
+    ap (λ n. drop n (front ++ first ∷ rest)) count
+    ∙ ap (λ c. drop (length (front ++ first ∷ [])) c) (sym (append_assoc front (first ∷ []) rest))
+    ∙ drop-append_seam (front ++ first ∷ []) rest
     )
 
 module _ {building live : ℕ} {cells : List Cell} {places : Slab ℕ} (k : IsKept cells places live building) (new_places : Slab ℕ) (key : ℕ) where
@@ -184,16 +183,16 @@ module _ {building live : ℕ} {cells : List Cell} {places : Slab ℕ} (k : IsKe
       let new_head : Cell = record { kind = 1; size = building - 1; bits = key } in
       let own_size : building - 1 ≡ length rest = omega arith in
       let closed_is : closed ≡ layout all ++ head (Live key rest) ∷ rest =
-          ap (λ n. slice_set cells n new_head) at
-          ∙ ap (λ c. slice_set c (length (layout all)) new_head) cells_are
-          ∙ set-append_seam (layout all) f.0 rest new_head
-          ∙ ap (λ n. layout all ++ record { kind = 1; size = n; bits = key } ∷ rest) own_size in
+      ap (λ n. slice_set cells n new_head) at
+      ∙ ap (λ c. slice_set c (length (layout all)) new_head) cells_are
+      ∙ set-append_seam (layout all) f.0 rest new_head
+      ∙ ap (λ n. layout all ++ record { kind = 1; size = n; bits = key } ∷ rest) own_size in
       let more : List Segment = all ++ Live key rest ∷ [] in
       let laid_is : closed ≡ layout more ++ [] =
-          closed_is
-          ∙ ap (λ r. layout all ++ head (Live key rest) ∷ r) (sym (append-nil rest))
-          ∙ sym (layout-append all (Live key rest ∷ []))
-          ∙ sym (append-nil (layout more)) in
+      closed_is
+      ∙ ap (λ r. layout all ++ head (Live key rest) ∷ r) (sym (append-nil rest))
+      ∙ sym (layout-append all (Live key rest ∷ []))
+      ∙ sym (append-nil (layout more)) in
       let none : find (live_runs all) key ≡ None = place-found all key 0 (sym (k.laid.places_are key) ∙ vacant) in
       let runs_more : live_runs more ≡ live_runs all ++ (key, rest) ∷ [] = live_runs-append all (Live key rest ∷ []) in
       let laid : IsLaid 0 closed new_places = record {
@@ -219,9 +218,9 @@ module _ {building live : ℕ} {cells : List Cell} {places : Slab ℕ} (k : IsKe
         kept = record {
           laid = laid;
           live_are =
-            let live_is = live-kept k in
-            let sum = ap cells_of read ∙ cells_of-append (live_runs all) ((key, rest) ∷ []) in
-            omega arith;
+              let live_is = live-kept k in
+              let sum = ap cells_of read ∙ cells_of-append (live_runs all) ((key, rest) ∷ []) in
+              omega arith;
           bound = let b = k.bound in omega (arith, length-set cells (length cells - building) new_head);
           fits = lit< tt;
           room = let room = k.room in omega arith;

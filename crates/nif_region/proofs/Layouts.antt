@@ -47,7 +47,7 @@ pub runs_in-layout : (all : List Segment) (last : List Cell) (building : ℕ) �
 runs_in-layout all last building e =
     let count : length (layout all ++ last) - building ≡ length (layout all) = omega (arith, length-append (layout all) last) in
     let front : take (length (layout all ++ last) - building) (layout all ++ last) ≡ layout all =
-        ap (λ n. take n (layout all ++ last)) count ∙ take-append_seam (layout all) last in
+    ap (λ n. take n (layout all ++ last)) count ∙ take-append_seam (layout all) last in
     ap (λ f. live_runs (segments (length (layout all ++ last)) f)) front
     ∙ ap live_runs (segments-layout (length (layout all ++ last)) all (omega (arith, length-append (layout all) last)))
 
@@ -99,7 +99,7 @@ place-among before after key run earlier =
     place_of-append before (Live key run ∷ after) key 0 (length (layout before)) (omega arith)
     ∙ ap (λ o. option_or o (place_of (Live key run ∷ after) key (length (layout before)))) (place-none before key 0 earlier)
     ∙ (let P : Bool → Type 0 = λ t. (if t then Some (length (layout before)) else place_of after key (length (layout before) + suc (length run))) ≡ Some (length (layout before)) in
-      elim (eqb_tells key key) [ inl e ↦ rw e.0 refl | inr e ↦ absurd (e.1 refl) ])
+    elim (eqb_tells key key) [ inl e ↦ rw e.0 refl | inr e ↦ absurd (e.1 refl) ])
 
 -- a live run in the vector
 pub record IsStanding (building : ℕ) (cells : List Cell) (places : Slab ℕ) (key : ℕ) (run : List Cell) : Type 0 where
@@ -128,11 +128,11 @@ standing building cells places key run laid there =
       last = laid.last;
       place = laid.places_are key ∙ ap (λ s. place_of s key 0) a.is ∙ place-among a.before a.after key run a.earlier;
       cells_are =
-        laid.cells_are
-        ∙ ap (λ s. layout s ++ laid.last) a.is
-        ∙ ap (λ l. l ++ laid.last) (layout-append a.before (Live key run ∷ a.after))
-        ∙ append_assoc (layout a.before) (layout (Live key run ∷ a.after)) laid.last
-        ∙ ap (λ l. layout a.before ++ (head (Live key run) ∷ l)) (append_assoc run (layout a.after) laid.last);
+          laid.cells_are
+          ∙ ap (λ s. layout s ++ laid.last) a.is
+          ∙ ap (λ l. l ++ laid.last) (layout-append a.before (Live key run ∷ a.after))
+          ∙ append_assoc (layout a.before) (layout (Live key run ∷ a.after)) laid.last
+          ∙ ap (λ l. layout a.before ++ (head (Live key run) ∷ l)) (append_assoc run (layout a.after) laid.last);
       last_are = laid.last_are;
       places_are = λ other. laid.places_are other ∙ ap (λ s. place_of s other 0) a.is;
       apart = apart;

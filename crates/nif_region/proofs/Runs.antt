@@ -49,10 +49,10 @@ module _ {A : Type 0} where
     ]
     | inr e ↦
         rw e.0 (
-          elim (nat_eq run.0 other) as (λ t. (if t then Some run.1 else find (without key rest) other) ≡ (if t then Some run.1 else find rest other)) [
-            | true ↦ refl
-            | false ↦ find-without_other key other rest ne
-          ]
+        elim (nat_eq run.0 other) as (λ t. (if t then Some run.1 else find (without key rest) other) ≡ (if t then Some run.1 else find rest other)) [
+          | true ↦ refl
+          | false ↦ find-without_other key other rest ne
+        ]
         )
   ]
 
@@ -92,10 +92,10 @@ module _ {A : Type 0} where
       elim (eqb_tells run.0 key) [
         | inl e ↦
             absurd (
-              let all : option_or (find rest run.0) (find ((key, value) ∷ b) run.0) ≡ None = sym (find-append rest ((key, value) ∷ b) run.0) ∙ apart.0 in
-              let at_key : option_or (find rest key) (find ((key, value) ∷ b) key) ≡ None = subst (λ k. option_or (find rest k) (find ((key, value) ∷ b) k) ≡ None) e.1 all in
-              let hit : find ((key, value) ∷ b) key ≡ None = rw more.0 at at_key in
-              elim (eqb_tells key key) [ inl t ↦ (let none : (if true then Some value else find b key) ≡ None = rw t.0 at hit in cc) | inr f ↦ f.1 refl ]
+            let all : option_or (find rest run.0) (find ((key, value) ∷ b) run.0) ≡ None = sym (find-append rest ((key, value) ∷ b) run.0) ∙ apart.0 in
+            let at_key : option_or (find rest key) (find ((key, value) ∷ b) key) ≡ None = subst (λ k. option_or (find rest k) (find ((key, value) ∷ b) k) ≡ None) e.1 all in
+            let hit : find ((key, value) ∷ b) key ≡ None = rw more.0 at at_key in
+            elim (eqb_tells key key) [ inl t ↦ (let none : (if true then Some value else find b key) ≡ None = rw t.0 at hit in cc) | inr f ↦ f.1 refl ]
             )
         | inr e ↦ (rw e.0 more.0, more.1)
       ]

@@ -21,9 +21,9 @@ copied front gap part rest =
     let count : length front + length gap + length part - (length front + length gap) ≡ length part = omega arith in
     let source : drop (length front + length gap) all ≡ part ++ rest = drop-append-add front (gap ++ (part ++ rest)) (length gap) ∙ drop-append_seam gap (part ++ rest) in
     let behind : drop (length front + length part) all ≡ drop (length part) (gap ++ part) ++ rest =
-        drop-append-add front (gap ++ (part ++ rest)) (length part)
-        ∙ ap (λ l. drop (length part) l) (sym (append_assoc gap part rest))
-        ∙ drop-append-le (length part) (gap ++ part) rest (omega (arith, length-append gap part)) in
+    drop-append-add front (gap ++ (part ++ rest)) (length part)
+    ∙ ap (λ l. drop (length part) l) (sym (append_assoc gap part rest))
+    ∙ drop-append-le (length part) (gap ++ part) rest (omega (arith, length-append gap part)) in
     ap (λ n. take (length front) all ++ take n (drop (length front + length gap) all) ++ drop (length front + n) all) count
     ∙ ap (λ l. take (length front) all ++ take (length part) l ++ drop (length front + length part) all) source
     ∙ ap (λ l. l ++ take (length part) (part ++ rest) ++ drop (length front + length part) all) (take-append_seam front (gap ++ (part ++ rest)))
@@ -115,24 +115,24 @@ module _ {building : ℕ} {old : List Cell} {old_places : Slab ℕ} {cells : Lis
       let r = first-rest s.rest refl l in
       let at : from ≡ length (layout s.written ++ s.gap) = let t = s.to_is in let f = s.from_is in omega (arith, length-append (layout s.written) s.gap) in
       let standing : cells ≡ (layout s.written ++ s.gap) ++ (head r.0 ∷ (own r.0 ++ layout r.1) ++ s.last) =
-          s.cells_are
-          ∙ sym (append_assoc (layout s.written) s.gap (layout s.rest ++ s.last))
-          ∙ ap (λ l. (layout s.written ++ s.gap) ++ (layout l ++ s.last)) r.2 in
+      s.cells_are
+      ∙ sym (append_assoc (layout s.written) s.gap (layout s.rest ++ s.last))
+      ∙ ap (λ l. (layout s.written ++ s.gap) ++ (layout l ++ s.last)) r.2 in
       let first_is : first ≡ head r.0 =
-          read
-          ∙ ap (λ c. get_or c from first) standing
-          ∙ ap (λ n. get_or ((layout s.written ++ s.gap) ++ (head r.0 ∷ (own r.0 ++ layout r.1) ++ s.last)) n first) at
-          ∙ get_or-append_seam (layout s.written ++ s.gap) (head r.0) ((own r.0 ++ layout r.1) ++ s.last) first in
+      read
+      ∙ ap (λ c. get_or c from first) standing
+      ∙ ap (λ n. get_or ((layout s.written ++ s.gap) ++ (head r.0 ∷ (own r.0 ++ layout r.1) ++ s.last)) n first) at
+      ∙ get_or-append_seam (layout s.written ++ s.gap) (head r.0) ((own r.0 ++ layout r.1) ++ s.last) first in
       record {
         segment = r.0;
         more = r.1;
         is = r.2;
         first_is = first_is;
         within =
-          let size = ap (λ c. c.size) first_is ∙ head-size r.0 in
-          let count = ap (λ l. length (layout l)) r.2 in
-          let e = s.end_is in
-          omega (arith, length-append (own r.0) (layout r.1));
+            let size = ap (λ c. c.size) first_is ∙ head-size r.0 in
+            let count = ap (λ l. length (layout l)) r.2 in
+            let e = s.end_is in
+            omega (arith, length-append (own r.0) (layout r.1));
       }
 
   -- a dead run is passed over
@@ -144,10 +144,10 @@ module _ {building : ℕ} {old : List Cell} {old_places : Slab ℕ} {cells : Lis
     last = s.last;
     front = s.front;
     cells_are =
-      s.cells_are
-      ∙ ap (λ l. layout s.written ++ (s.gap ++ (layout l ++ s.last))) is
-      ∙ ap (λ l. layout s.written ++ (s.gap ++ (head (Dead run) ∷ l))) (append_assoc run (layout more) s.last)
-      ∙ ap (λ l. layout s.written ++ l) (sym (append_assoc s.gap (head (Dead run) ∷ run) (layout more ++ s.last)));
+        s.cells_are
+        ∙ ap (λ l. layout s.written ++ (s.gap ++ (layout l ++ s.last))) is
+        ∙ ap (λ l. layout s.written ++ (s.gap ++ (head (Dead run) ∷ l))) (append_assoc run (layout more) s.last)
+        ∙ ap (λ l. layout s.written ++ l) (sym (append_assoc s.gap (head (Dead run) ∷ run) (layout more ++ s.last)));
     old_are = s.old_are;
     last_are = s.last_are;
     to_is = s.to_is;
@@ -184,9 +184,9 @@ module _ {building : ℕ} {old : List Cell} {old_places : Slab ℕ} {cells : Lis
       let t = s.to_is in
       let f = s.from_is in
       let standing : cells ≡ layout s.written ++ (s.gap ++ (part ++ (layout more ++ s.last))) =
-          s.cells_are
-          ∙ ap (λ l. layout s.written ++ (s.gap ++ (layout l ++ s.last))) is
-          ∙ ap (λ l. layout s.written ++ (s.gap ++ (head (Live key run) ∷ l))) (append_assoc run (layout more) s.last) in
+      s.cells_are
+      ∙ ap (λ l. layout s.written ++ (s.gap ++ (layout l ++ s.last))) is
+      ∙ ap (λ l. layout s.written ++ (s.gap ++ (head (Live key run) ∷ l))) (append_assoc run (layout more) s.last) in
       let from_at : from ≡ length (layout s.written) + length s.gap = omega arith in
       let after_at : after ≡ length (layout s.written) + length s.gap + length part = omega arith in
       let layout_all : layout all ≡ layout s.written ++ part = layout-append s.written (Live key run ∷ []) ∙ ap (λ r. layout s.written ++ (head (Live key run) ∷ r)) (append-nil run) in
@@ -198,44 +198,44 @@ module _ {building : ℕ} {old : List Cell} {old_places : Slab ℕ} {cells : Lis
         last = s.last;
         front = s.front;
         cells_are =
-          new_is
-          ∙ ap (λ c. copy_within c from after to) standing
-          ∙ ap (λ n. copy_within (layout s.written ++ (s.gap ++ (part ++ (layout more ++ s.last)))) n after to) from_at
-          ∙ ap (λ n. copy_within (layout s.written ++ (s.gap ++ (part ++ (layout more ++ s.last)))) (length (layout s.written) + length s.gap) n to) after_at
-          ∙ ap (λ n. copy_within (layout s.written ++ (s.gap ++ (part ++ (layout more ++ s.last)))) (length (layout s.written) + length s.gap) (length (layout s.written) + length s.gap + length part) n) t
-          ∙ copied (layout s.written) s.gap part (layout more ++ s.last)
-          ∙ sym (append_assoc (layout s.written) part (over ++ (layout more ++ s.last)))
-          ∙ ap (λ l. l ++ (over ++ (layout more ++ s.last))) (sym layout_all);
+            new_is
+            ∙ ap (λ c. copy_within c from after to) standing
+            ∙ ap (λ n. copy_within (layout s.written ++ (s.gap ++ (part ++ (layout more ++ s.last)))) n after to) from_at
+            ∙ ap (λ n. copy_within (layout s.written ++ (s.gap ++ (part ++ (layout more ++ s.last)))) (length (layout s.written) + length s.gap) n to) after_at
+            ∙ ap (λ n. copy_within (layout s.written ++ (s.gap ++ (part ++ (layout more ++ s.last)))) (length (layout s.written) + length s.gap) (length (layout s.written) + length s.gap + length part) n) t
+            ∙ copied (layout s.written) s.gap part (layout more ++ s.last)
+            ∙ sym (append_assoc (layout s.written) part (over ++ (layout more ++ s.last)))
+            ∙ ap (λ l. l ++ (over ++ (layout more ++ s.last))) (sym layout_all);
         old_are = s.old_are;
         last_are = s.last_are;
         to_is = let l = ap length layout_all in omega (arith, length-append (layout s.written) part);
         from_is = omega (arith, length-drop (length part) (s.gap ++ part), length-append s.gap part);
         end_is = let e = s.end_is in let l = ap (λ l. length (layout l)) is in omega (arith, length-append run (layout more));
         compact =
-          let c = s.compact in
-          let sum = ap cells_of (live_runs-append s.written (Live key run ∷ [])) ∙ cells_of-append (live_runs s.written) ((key, run) ∷ []) in
-          omega arith;
+            let c = s.compact in
+            let sum = ap cells_of (live_runs-append s.written (Live key run ∷ [])) ∙ cells_of-append (live_runs s.written) ((key, run) ∷ []) in
+            omega arith;
         runs_are =
-          ap (λ l. l ++ live_runs more) (live_runs-append s.written (Live key run ∷ []))
-          ∙ append_assoc (live_runs s.written) ((key, run) ∷ []) (live_runs more)
-          ∙ ap (λ l. live_runs s.written ++ live_runs l) (sym is)
-          ∙ s.runs_are;
+            ap (λ l. l ++ live_runs more) (live_runs-append s.written (Live key run ∷ []))
+            ∙ append_assoc (live_runs s.written) ((key, run) ∷ []) (live_runs more)
+            ∙ ap (λ l. live_runs s.written ++ live_runs l) (sym is)
+            ∙ s.runs_are;
         apart = s.apart;
         places_are = λ other. elim (eqb_tells other key) [
           | inl e ↦
               subst (λ k. get new_places k ≡ option_or (place_of all k 0) (place_of more k after)) (sym e.1) (
-                own_place
-                ∙ ap Some t
-                ∙ ap (λ o. option_or o (place_of more key after)) (sym (place-among s.written [] key run none))
+              own_place
+              ∙ ap Some t
+              ∙ ap (λ o. option_or o (place_of more key after)) (sym (place-among s.written [] key run none))
               )
           | inr e ↦
               let later : place_of (Live key run ∷ more) other from ≡ place_of more other after =
-                  (let past : place_of (Live key run ∷ more) other from ≡ place_of more other (from + suc (length run)) = elim (eqb_tells key other) [ inl f ↦ absurd (e.1 (sym f.1)) | inr f ↦ rw f.0 refl ] in past)
-                  ∙ ap (λ n. place_of more other n) (sym count) in
+              (let past : place_of (Live key run ∷ more) other from ≡ place_of more other (from + suc (length run)) = elim (eqb_tells key other) [ inl f ↦ absurd (e.1 (sym f.1)) | inr f ↦ rw f.0 refl ] in past)
+              ∙ ap (λ n. place_of more other n) (sym count) in
               let earlier : place_of all other 0 ≡ place_of s.written other 0 =
-                  place_of-append s.written (Live key run ∷ []) other 0 (length (layout s.written)) (omega arith)
-                  ∙ ap (λ o. option_or (place_of s.written other 0) o) (place-none (Live key run ∷ []) other (length (layout s.written)) (find-one_other key other run e.1))
-                  ∙ option_or-none (place_of s.written other 0) in
+              place_of-append s.written (Live key run ∷ []) other 0 (length (layout s.written)) (omega arith)
+              ∙ ap (λ o. option_or (place_of s.written other 0) o) (place-none (Live key run ∷ []) other (length (layout s.written)) (find-one_other key other run e.1))
+              ∙ option_or-none (place_of s.written other 0) in
               others other e.1
               ∙ s.places_are other
               ∙ ap (λ l. option_or (place_of s.written other 0) (place_of l other from)) is
@@ -260,23 +260,23 @@ module _ {building : ℕ} {old : List Cell} {old_places : Slab ℕ} {cells : Lis
       let none_left = ap (λ r. length (layout r)) none in
       let over : List Cell = drop (length s.last) (s.gap ++ s.last) in
       let standing : cells ≡ layout s.written ++ (s.gap ++ (s.last ++ [])) =
-          s.cells_are
-          ∙ ap (λ r. layout s.written ++ (s.gap ++ (layout r ++ s.last))) none
-          ∙ ap (λ r. layout s.written ++ (s.gap ++ r)) (sym (append-nil s.last)) in
+      s.cells_are
+      ∙ ap (λ r. layout s.written ++ (s.gap ++ (layout r ++ s.last))) none
+      ∙ ap (λ r. layout s.written ++ (s.gap ++ r)) (sym (append-nil s.last)) in
       let end_at : end ≡ length (layout s.written) + length s.gap = omega arith in
       let whole_at : whole ≡ length (layout s.written) + length s.gap + length s.last = let c = length-sliding in let b = s.last_are in omega arith in
       let slid_cells : copy_within cells end whole to ≡ layout s.written ++ (s.last ++ (over ++ [])) =
-          ap (λ c. copy_within c end whole to) standing
-          ∙ ap (λ n. copy_within (layout s.written ++ (s.gap ++ (s.last ++ []))) n whole to) end_at
-          ∙ ap (λ n. copy_within (layout s.written ++ (s.gap ++ (s.last ++ []))) (length (layout s.written) + length s.gap) n to) whole_at
-          ∙ ap (λ n. copy_within (layout s.written ++ (s.gap ++ (s.last ++ []))) (length (layout s.written) + length s.gap) (length (layout s.written) + length s.gap + length s.last) n) t
-          ∙ copied (layout s.written) s.gap s.last [] in
+      ap (λ c. copy_within c end whole to) standing
+      ∙ ap (λ n. copy_within (layout s.written ++ (s.gap ++ (s.last ++ []))) n whole to) end_at
+      ∙ ap (λ n. copy_within (layout s.written ++ (s.gap ++ (s.last ++ []))) (length (layout s.written) + length s.gap) n to) whole_at
+      ∙ ap (λ n. copy_within (layout s.written ++ (s.gap ++ (s.last ++ []))) (length (layout s.written) + length s.gap) (length (layout s.written) + length s.gap + length s.last) n) t
+      ∙ copied (layout s.written) s.gap s.last [] in
       let cut : to + building ≡ length (layout s.written ++ s.last) = let b = s.last_are in omega (arith, length-append (layout s.written) s.last) in
       let new_are : new ≡ layout s.written ++ s.last =
-          new_is
-          ∙ ap (λ c. take (to + building) c) (slid_cells ∙ sym (append_assoc (layout s.written) s.last (over ++ [])))
-          ∙ ap (λ n. take n ((layout s.written ++ s.last) ++ (over ++ []))) cut
-          ∙ take-append_seam (layout s.written ++ s.last) (over ++ []) in
+      new_is
+      ∙ ap (λ c. take (to + building) c) (slid_cells ∙ sym (append_assoc (layout s.written) s.last (over ++ [])))
+      ∙ ap (λ n. take n ((layout s.written ++ s.last) ++ (over ++ []))) cut
+      ∙ take-append_seam (layout s.written ++ s.last) (over ++ []) in
       let runs : live_runs s.written ≡ runs_in building old = sym (append-nil (live_runs s.written)) ∙ ap (λ r. live_runs s.written ++ live_runs r) (sym none) ∙ s.runs_are in
       let laid : IsLaid building new places = record {
         ended = s.written;
@@ -291,9 +291,9 @@ module _ {building : ℕ} {old : List Cell} {old_places : Slab ℕ} {cells : Lis
         same_runs = runs_in-laid building new places laid ∙ runs;
         same_building = ap (built_in building) new_are ∙ built-last building (layout s.written) s.front s.last s.last_are ∙ ap (built_in building) (sym s.old_are);
         compact =
-          let c = s.compact ∙ ap cells_of runs in
-          let n = ap length new_are in
-          omega arith;
+            let c = s.compact ∙ ap cells_of runs in
+            let n = ap length new_are in
+            omega arith;
         same_keys = s.same_keys;
         same_capacity = s.same_capacity;
       }

@@ -38,7 +38,7 @@ some_where (Some x) b none some = refl
 pub place_is_live : (building : ℕ) (cells : List Cell) (places : Slab ℕ) (key : ℕ) → IsLaid building cells places → ContainsKey places key → IsSome (find (runs_in building cells) key)
 place_is_live building cells places key laid has =
     some_where (find (runs_in building cells) key) (get places key) (
-      λ none. laid.places_are key ∙ place-none laid.ended key 0 (sym (ap (λ r. find r key) (runs_in-laid building cells places laid)) ∙ none)
+    λ none. laid.places_are key ∙ place-none laid.ended key 0 (sym (ap (λ r. find r key) (runs_in-laid building cells places laid)) ∙ none)
     ) has
 
 pub the_place : {A : Type 0} (m n : A) (o : Option A) → o ≡ Some m → o ≡ Some n → m ≡ n
@@ -118,9 +118,9 @@ place-dead : (before after : List Segment) (key other : ℕ) (run : List Cell) �
 place-dead before after key other run ne =
     place_of-append before (Dead run ∷ after) other 0 (length (layout before)) (omega arith)
     ∙ ap (λ o. option_or (place_of before other 0) o) (
-      let same : place_of (Dead run ∷ after) other (length (layout before)) ≡ place_of (Live key run ∷ after) other (length (layout before)) =
-          elim (eqb_tells key other) [ inl e ↦ absurd (ne (sym e.1)) | inr e ↦ rw e.0 refl ] in
-      same
+    let same : place_of (Dead run ∷ after) other (length (layout before)) ≡ place_of (Live key run ∷ after) other (length (layout before)) =
+    elim (eqb_tells key other) [ inl e ↦ absurd (ne (sym e.1)) | inr e ↦ rw e.0 refl ] in
+    same
     )
     ∙ sym (place_of-append before (Live key run ∷ after) other 0 (length (layout before)) (omega arith))
 
@@ -232,15 +232,15 @@ module _ {building : ℕ} {cells : List Cell} {places : Slab ℕ} {key : ℕ} {r
     places_are = λ other. elim (eqb_tells other key) [
       | inl e ↦
           subst (λ n. get new_places n ≡ place_of (s.before ++ Dead run ∷ s.after) n 0) (sym e.1) (
-            updates.changed
-            ∙ sym (
-              place-none (s.before ++ Dead run ∷ s.after) key 0 (
-                ap (λ r. find r key) (live_runs-append s.before (Dead run ∷ s.after))
-                ∙ find-append (live_runs s.before) (live_runs s.after) key
-                ∙ ap (λ o. option_or o (find (live_runs s.after) key)) s.none_before
-                ∙ s.none_after
-              )
-            )
+          updates.changed
+          ∙ sym (
+          place-none (s.before ++ Dead run ∷ s.after) key 0 (
+          ap (λ r. find r key) (live_runs-append s.before (Dead run ∷ s.after))
+          ∙ find-append (live_runs s.before) (live_runs s.after) key
+          ∙ ap (λ o. option_or o (find (live_runs s.after) key)) s.none_before
+          ∙ s.none_after
+          )
+          )
           )
       | inr e ↦ updates.others other e.1 ∙ s.places_are other ∙ sym (place-dead s.before s.after key other run e.1)
     ];

@@ -41,7 +41,7 @@ loop-from-preserved-then-head-eq-LIVE c =
     let size = live.2 in
     record {
       sliding =
-        moved c.loop-from.invariant.sliding c.index-head.result.now.bits live.0 n.more (n.is ∙ ap (λ s. s ∷ n.more) live.1) _ _ _ _ (omega arith) (omega arith) c.copy_within.ensures.items c.move_place.ensures.moved c.move_place.ensures.others c.move_place.ensures.len c.move_place.ensures.capacity;
+          moved c.loop-from.invariant.sliding c.index-head.result.now.bits live.0 n.more (n.is ∙ ap (λ s. s ∷ n.more) live.1) _ _ _ _ (omega arith) (omega arith) c.copy_within.ensures.items c.move_place.ensures.moved c.move_place.ensures.others c.move_place.ensures.len c.move_place.ensures.capacity;
       capacity = c.copy_within.ensures.capacity ∙ c.loop-from.invariant.capacity;
     }
 

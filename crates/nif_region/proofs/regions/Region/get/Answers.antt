@@ -32,7 +32,7 @@ pub returns : goal.returns
 returns c =
     let h = held _ _ _ _ _ _ c.self.invariant.laid (rw (← c.self.view_is) at c.requires) c.index-head.ensures in
     let read : c.index.result.now ≡ get_or h.run c.args.place c.index.result.now =
-        c.index.ensures
-        ∙ ap (λ n. get_or c.self.inside.cells.items (n + 1 + c.args.place) c.index.result.now) h.is
-        ∙ cell-read h.stands c.args.place c.index.result.now h.less in
+    c.index.ensures
+    ∙ ap (λ n. get_or c.self.inside.cells.items (n + 1 + c.args.place) c.index.result.now) h.is
+    ∙ cell-read h.stands c.args.place c.index.result.now h.less in
     rw (← c.self.view_is, h.there) (slice_get-get_or h.run c.args.place c.index.result.now h.less ∙ ap Some (sym read))

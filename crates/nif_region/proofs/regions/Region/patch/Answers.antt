@@ -23,6 +23,6 @@ pub returns-clause-building : goal.returns-clause-building
 returns-clause-building c =
     let l = live-within c.self.invariant in
     rw (length_is c) (
-      patched-built c.self.inside.building c.self.inside.cells.items c.args.place c.args.cell (omega arith) (within c)
-      ∙ ap (λ r. patched r.building c.args.place c.args.cell) c.self.view_is
+    patched-built c.self.inside.building c.self.inside.cells.items c.args.place c.args.cell (omega arith) (within c)
+    ∙ ap (λ r. patched r.building c.args.place c.args.cell) c.self.view_is
     )

@@ -49,15 +49,15 @@ returns-clause-runs c = rw (← c.self.view_is, (there c).there) (runs c)
 pub returns-clause-run : goal.returns-clause-run
 returns-clause-run c =
     rw (← c.self.view_is, (there c).there) (
-      ap (λ r. find r c.args.run.key) (runs c)
-      ∙ find-put_same c.args.run.key (set (there c).run c.args.place c.args.cell) (there c).run (runs_in c.self.inside.building c.self.inside.cells.items) (there c).there
+    ap (λ r. find r c.args.run.key) (runs c)
+    ∙ find-put_same c.args.run.key (set (there c).run c.args.place c.args.cell) (there c).run (runs_in c.self.inside.building c.self.inside.cells.items) (there c).there
     )
 
 pub returns-clause-others : goal.returns-clause-others
 returns-clause-others c =
     rw (← c.self.view_is) (λ key ne.
-        ap (λ r. find r key) (runs c)
-        ∙ find-put_other c.args.run.key key (set (there c).run c.args.place c.args.cell) (runs_in c.self.inside.building c.self.inside.cells.items) ne)
+    ap (λ r. find r key) (runs c)
+    ∙ find-put_other c.args.run.key key (set (there c).run c.args.place c.args.cell) (runs_in c.self.inside.building c.self.inside.cells.items) ne)
 
 pub returns-clause-building : goal.returns-clause-building
 returns-clause-building c =
