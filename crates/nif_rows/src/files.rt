@@ -1,4 +1,4 @@
-//! Plain files as bytes, and words.
+//! Plain files as bytes.
 use std::alloc::Global;
 use std::test::Fail;
 
@@ -19,13 +19,4 @@ pub fn one_block(alloc: Global) -> Result<Vec<u8>, Fail> {
     file.extend_from_slice(b"PlainNumber")?;
     file.extend_from_slice(&[7, 0, 0, 0, 1, 0, 0, 0, 0, 0, 0, 0])?;
     Ok(file)
-}
-
-/// The words of a line.
-pub fn words(alloc: Global, line: &str) -> Result<Vec<String>, Fail> {
-    let mut words = Vec::new(alloc);
-    for word in line.split_whitespace() {
-        words.push(String::from_str(alloc, word)?)?;
-    }
-    Ok(words)
 }

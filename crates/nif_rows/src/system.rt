@@ -1,5 +1,6 @@
 //! The real shelf, once, on files of the test's own.
-use crate::files::{one_block, words};
+use crate::answers::words;
+use crate::files::one_block;
 use nif_base::MemSink;
 use nif_tool::{RealShelf, Status, run};
 use std::fs;

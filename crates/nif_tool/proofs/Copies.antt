@@ -7,11 +7,10 @@ use Rattle.std.specs.FinMap.{get, insert}
 use Rattle.nif_base.specs.Shelf.{Files, Desk, created, written, files_written-created}
 use Rattle.nif_value.specs.declared.first.FirstFile.{FirstFile}
 use Rattle.nif_file.specs.First.{text_of, IsFirst}
-use Rattle.nif_tool.specs.Command.{Command}
-use Rattle.nif_tool.specs.Meaning.{HasForm, files_of, DoesTold}
+use Rattle.nif_tool.specs.Meaning.{HasForm, files_of, CopiesTold}
 use Rattle.nif_tool.specs.Steps.{Loads, StoresTold}
 use Rattle.nif_tool.specs.declared.report.Fault.{Fault}
-use Rattle.nif_tool.specs.declared.report.Fault.TheVariants.{Usage, First, OpenFault, ReadFault, WriteFault, NoMemory}
+use Rattle.nif_tool.specs.declared.report.Fault.TheVariants.{Usage, Schema, First, OpenFault, ReadFault, WriteFault, PrintFault, NoMemory}
 
 -- a file that was created and written whole
 pub stored_all : (a b d : Option Desk) (name bytes : List ℕ) → b ≡ option_map (created name) a → d ≡ option_map (written bytes) b
@@ -41,17 +40,19 @@ copied_part None old new to n f h e = h
 copied_part (Some bytes) old new to n f h e = ((f, h), (n, e ∙ ap (λ b. insert old to (take n b)) (sym h.text)))
 
 -- a file that was read, and then its value written
-pub copied : (c : Command) (old mid new : Option Files) (f : FirstFile) (r : Result (Unit {0}) Fault) → IfSome old (λ d. Loads c.from d (Ok f)) → mid ≡ old
-    → StoresTold c.to (text_of f) mid new r → DoesTold c old new (result_err r)
-copied c None mid new f r h e s = tt
-copied c (Some old) mid new f r h e s = stores new r (subst (λ m. StoresTold c.to (text_of f) m new r) e s)
+pub copied : (from to : List ℕ) (old mid new : Option Files) (f : FirstFile) (r : Result (Unit {0}) Fault) → IfSome old (λ d. Loads from d (Ok f)) → mid ≡ old
+    → StoresTold to (text_of f) mid new r → CopiesTold from to old new (result_err r)
+copied from to None mid new f r h e s = tt
+copied from to (Some old) mid new f r h e s = stores new r (subst (λ m. StoresTold to (text_of f) m new r) e s)
   where
-    stores : (new : Option Files) (r : Result (Unit {0}) Fault) → StoresTold c.to (text_of f) (Some old) new r → DoesTold c (Some old) new (result_err r)
+    stores : (new : Option Files) (r : Result (Unit {0}) Fault) → StoresTold to (text_of f) (Some old) new r → CopiesTold from to (Some old) new (result_err r)
     stores None r s = s
-    stores (Some new) (Ok _) s = copied_whole (get old c.from) old new c.to f h s
-    stores (Some new) (Err WriteFault) s = copied_part (get old c.from) old new c.to s.0 f h s.1
+    stores (Some new) (Ok _) s = copied_whole (get old from) old new to f h s
+    stores (Some new) (Err WriteFault) s = copied_part (get old from) old new to s.0 f h s.1
     stores (Some new) (Err OpenFault) s = s
     stores (Some new) (Err Usage) s = absurd s
+    stores (Some new) (Err (Schema _)) s = absurd s
     stores (Some new) (Err (First _)) s = absurd s
     stores (Some new) (Err ReadFault) s = absurd s
+    stores (Some new) (Err PrintFault) s = absurd s
     stores (Some new) (Err NoMemory) s = absurd s

@@ -1,4 +1,8 @@
 pub mod Report
+pub mod Lines
+pub mod Refusals
 pub mod Command
+pub mod Schemas
 pub mod Meaning
 pub mod Steps
+pub mod Words

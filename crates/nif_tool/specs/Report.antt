@@ -1,16 +1,18 @@
--- The status of a fault, or of none.
+-- The status of an answer.
 use Rattle.std.specs.Prelude.{None, Some}
 use Rattle.std.specs.declared.option.Option.{Option}
 use Rattle.nif_tool.specs.declared.report.Fault.{Fault}
-use Rattle.nif_tool.specs.declared.report.Fault.TheVariants.{Usage, First, OpenFault, ReadFault, WriteFault, NoMemory}
+use Rattle.nif_tool.specs.declared.report.Fault.TheVariants.{Usage, Schema, First, OpenFault, ReadFault, WriteFault, PrintFault, NoMemory}
 use Rattle.nif_tool.specs.declared.report.Status.{Status}
-use Rattle.nif_tool.specs.declared.report.Status.TheVariants.{Done, FileRefused, Usage as UsageStatus, OutsideFault, NoMemory as NoMemoryStatus}
+use Rattle.nif_tool.specs.declared.report.Status.TheVariants as status
 
 abbrev pub status_of : Option Fault → Status
-status_of None = Done
-status_of (Some Usage) = UsageStatus
-status_of (Some (First _)) = FileRefused
-status_of (Some OpenFault) = OutsideFault
-status_of (Some ReadFault) = OutsideFault
-status_of (Some WriteFault) = OutsideFault
-status_of (Some NoMemory) = NoMemoryStatus
+status_of None = status.Done
+status_of (Some Usage) = status.Usage
+status_of (Some (Schema _)) = status.SchemaRefused
+status_of (Some (First _)) = status.FileRefused
+status_of (Some OpenFault) = status.OutsideFault
+status_of (Some ReadFault) = status.OutsideFault
+status_of (Some WriteFault) = status.OutsideFault
+status_of (Some PrintFault) = status.OutsideFault
+status_of (Some NoMemory) = status.NoMemory

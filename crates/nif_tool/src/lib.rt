@@ -5,9 +5,14 @@
 #![tactic(auto)]
 
 pub mod commands;
+pub mod copying;
+pub mod lines;
 pub mod real;
 pub mod report;
+pub mod schemas;
+pub mod words;
 
 pub use commands::run;
+pub use lines::refuse;
 pub use real::{RealShelf, WriterSink};
 pub use report::{Fault, Report, Status};

@@ -2,8 +2,8 @@
 ghost use Rattle.std.specs.Prelude.{◌≡◌};
 ghost use Rattle.nif_tool.specs.Report.{status_of};
 
+use nif_schema::SchemaFault;
 use nif_value::FirstFault;
-use thiserror::Error;
 
 /// How a command ended; its number, from 0, is the exit status of the program.
 #[derive(Debug, Drop, Clone, Copy, PartialEq, Eq)]
@@ -18,30 +18,28 @@ pub enum Status {
 }
 
 /// Why a command was not done.
-#[derive(Debug, Drop, Clone, Copy, PartialEq, Eq, Error)]
+#[derive(Drop)]
 pub enum Fault {
     /// The words are no command.
-    #[error("the words are no command")]
     Usage,
+    /// The schema is refused. The fault is not want of memory.
+    Schema { fault: SchemaFault },
     /// The file has not the form of a plain file. The fault is none of the outside or of memory.
-    #[error("the file is refused")]
     First { fault: FirstFault },
     /// A file could not be opened or created.
-    #[error("a file could not be opened or created")]
     OpenFault,
     /// A file could not be read.
-    #[error("a file could not be read")]
     ReadFault,
     /// A file could not be written; it has the first of its bytes.
-    #[error("a file could not be written")]
     WriteFault,
+    /// The text could not be printed; the first of it was.
+    PrintFault,
     /// Memory ran out.
-    #[error("memory ran out")]
     NoMemory,
 }
 
 /// How a command ended, and why, if it was not done.
-#[derive(Debug, Drop, Clone, Copy, PartialEq, Eq)]
+#[derive(Drop)]
 pub struct Report {
     pub status: Status,
     pub fault: Option<Fault>,
@@ -56,8 +54,10 @@ impl Report {
         let status = match &fault {
             None => Status::Done,
             Some(Fault::Usage) => Status::Usage,
-            Some(Fault::First { fault: _ }) => Status::FileRefused,
-            Some(Fault::OpenFault | Fault::ReadFault | Fault::WriteFault) => Status::OutsideFault,
+            Some(Fault::Schema { .. }) => Status::SchemaRefused,
+            Some(Fault::First { .. }) => Status::FileRefused,
+            Some(Fault::OpenFault | Fault::ReadFault | Fault::WriteFault | Fault::PrintFault) =>
+                Status::OutsideFault,
             Some(Fault::NoMemory) => Status::NoMemory,
         };
         Report { status, fault }

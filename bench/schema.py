@@ -1,0 +1,141 @@
+#!/usr/bin/env python3
+"""Times `nif schema` on hostile schema texts of growing size, beside `cat` on the same texts.
+
+    bench/schema.py [PROGRAM]        PROGRAM: crates/nif/out/nif, as `rt run` in crates/nif builds it
+
+For each shape it makes texts of 0.5, 1, 2 and 4 MiB and prints the best of three runs, and how the time grew when the
+size doubled: about 2 is linear. Exit status 0 (listed) and 3 (refused) are both fine. It is no part of the tests.
+"""
+import os, resource, subprocess, sys, tempfile, time
+
+PLAIN = """ <basic name="ulittle32"/> <basic name="uint"/> <basic name="HeaderString"/> <basic name="FileVersion"/>
+ <struct name="Header"><field name="Header String" type="HeaderString"/><field name="Version" type="FileVersion"/>
+ <field name="Num Blocks" type="ulittle32"/></struct><struct name="Footer"/>
+"""
+
+
+def filled(size, item, head="", tail=""):
+    """A root with `plain`'s declarations, then head, as many items as fit, and tail; `item` takes the place of the item."""
+    parts, length = ["<niftoolsxml>\n", PLAIN, head], 300 + len(PLAIN) + len(head) + len(tail)
+    place = 0
+    while True:
+        text = item(place)
+        if length + len(text) > size:
+            break
+        parts.append(text)
+        length += len(text)
+        place += 1
+    return "".join(parts) + tail + "</niftoolsxml>\n"
+
+
+def chain(size):
+    return filled(size, lambda i: '<niobject name="B%d"%s/>' % (i, ' inherit="B%d"' % (i - 1) if i else ""))
+
+
+def chain_backwards(size):
+    return filled(size, lambda i: '<niobject name="B%d" inherit="B%d"/>' % (i, i + 1))
+
+
+def loop_of_parents(size):
+    text = filled(size - 60, lambda i: '<niobject name="B%d" inherit="B%d"/>' % (i, i + 1))
+    last = text.count("<niobject")
+    return text.replace("</niftoolsxml>", '<niobject name="B%d" inherit="B0"/></niftoolsxml>' % last)
+
+
+def chain_with_fields(size):
+    return filled(size, lambda i: '<niobject name="B%d"%s><field name="F%d" type="uint" cond="F0"/></niobject>'
+                  % (i, ' inherit="B%d"' % (i - 1) if i else "", i))
+
+
+def conditions_on_the_first(size):
+    return filled(size, lambda i: '<field name="F%d" type="uint"%s/>' % (i, ' cond="F0"' if i else ""), '<struct name="S">', "</struct>")
+
+
+def one_name(size):
+    return filled(size, lambda i: '<field name="F" type="uint"%s/>' % (' cond="F"' if i else ""), '<struct name="S">', "</struct>")
+
+
+def paths_through_one_name(size):
+    head = '<struct name="T"><field name="N" type="uint"/></struct><struct name="S">'
+    return filled(size, lambda i: '<field name="F" type="T"%s/>' % (' cond="F\\N"' if i else ""), head, "</struct>")
+
+
+def long_paths(size):
+    head = '<struct name="V"><field name="V" type="V"/></struct><struct name="S"><field name="V" type="V"/>'
+    return filled(size, lambda i: '<field name="F" type="uint" cond="%s"/>' % "\\".join(["V"] * 1900), head, "</struct>")
+
+
+def ring(size):
+    return filled(size - 60, lambda i: '<struct name="S%d"><field name="F" type="S%d"/></struct>' % (i, i + 1))
+
+
+def uses_of_one_closed(size):
+    return filled(size, lambda i: '<struct name="S%d"><field name="F" type="Odd"/></struct>' % i,
+                  '<struct name="Odd"><field name="F" type="Nowhere"/></struct>')
+
+
+def children_of_one(size):
+    return filled(size, lambda i: '<niobject name="B%d" inherit="A"><field name="G" type="uint" cond="F"/></niobject>' % i,
+                  '<niobject name="A"><field name="F" type="uint"/></niobject>')
+
+
+def attributes(size):
+    return "<niftoolsxml " + " ".join("a%d=''" % i for i in range((size - 30) // 13)) + "/>"
+
+
+def references(size):
+    return "<niftoolsxml a='" + "&amp;" * ((size - 30) // 5) + "'/>"
+
+
+def deep(size):
+    one = "<a>" * 62 + "</a>" * 62
+    return "<niftoolsxml>" + one * ((size - 40) // len(one)) + "</niftoolsxml>"
+
+
+def text_and_comments(size):
+    return "<niftoolsxml>" + "x<!-- - -->" * ((size - 40) // 11) + "</niftoolsxml>"
+
+
+def unfinished(size):
+    return "<niftoolsxml>" + "<a/>" * ((size - 40) // 4)
+
+
+def tokens(size):
+    head = '<token name="t" attrs="cond">' + "".join('<t token="#T%d#" string="F0"/>' % i for i in range(20)) + '</token><struct name="S">'
+    return filled(size, lambda i: '<field name="F%d" type="uint"%s/>' % (i, ' cond="#T%d# == 1"' % (i % 20) if i else ""), head, "</struct>")
+
+
+SHAPES = [chain, chain_backwards, loop_of_parents, chain_with_fields, conditions_on_the_first, one_name, paths_through_one_name,
+          long_paths, ring, uses_of_one_closed, children_of_one, attributes, references, deep, text_and_comments, unfinished, tokens]
+
+
+def best(words, runs=3):
+    seconds = []
+    for _ in range(runs):
+        begin = time.perf_counter()
+        status = subprocess.run(words, stdout=subprocess.DEVNULL).returncode
+        seconds.append(time.perf_counter() - begin)
+        if status not in (0, 3):
+            sys.exit("%s ended with %s" % (words, status))
+    return min(seconds)
+
+
+def main():
+    program = os.path.abspath(sys.argv[1] if len(sys.argv) > 1 else "crates/nif/out/nif")
+    sizes = [1 << 19, 1 << 20, 1 << 21, 1 << 22]
+    print("%-26s" % "shape" + "".join("%9s MiB" % (s / (1 << 20)) for s in sizes) + "    growth    cat")
+    with tempfile.TemporaryDirectory() as folder:
+        for shape in SHAPES:
+            seconds, yardstick = [], 0.0
+            for size in sizes:
+                path = os.path.join(folder, "s")
+                with open(path, "w") as f:
+                    f.write(shape(size))
+                seconds.append(best([program, "schema", path]))
+                yardstick = best(["cat", path])
+            growth = " ".join("%.1f" % (b / a) for a, b in zip(seconds, seconds[1:]))
+            print("%-26s" % shape.__name__ + "".join("%13.3f" % s for s in seconds) + "    " + growth + "  %.3f" % yardstick)
+    print("most memory held by a run: %d kB" % resource.getrusage(resource.RUSAGE_CHILDREN).ru_maxrss)
+
+
+main()

@@ -1,0 +1,4 @@
+pub mod ReasonLemmas
+pub mod RootLemmas
+pub mod FaultLemmas
+pub mod ValueLemmas

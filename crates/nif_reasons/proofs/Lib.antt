@@ -1,0 +1,10 @@
+mod JumpLemmas
+mod LevelLemmas
+mod Lists
+mod OwnLemmas
+mod PathLemmas
+mod ReasonLemmas
+mod ShapeLemmas
+mod TableLemmas
+mod TreeLemmas
+mod WayLemmas

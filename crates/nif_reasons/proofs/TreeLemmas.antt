@@ -1,0 +1,13 @@
+-- Trees of expressions, one layer at a time.
+use Rattle.std.proofs.Common.{◌≡◌, rules, ap, sym, ◌∙◌}
+use Rattle.nif_schema.specs.Expression.{Tree, Not, Two, tree, layer}
+use Rattle.nif_schema.specs.declared.exprs.Op.{Op}
+use Rattle.nif_schema.specs.declared.exprs.Expr.{Expr, fold-Expr, fold-roll-Expr}
+use Rattle.nif_schema.specs.declared.exprs.Expr as kept
+use Rattle.nif_schema.specs.declared.exprs.Expr.TheVariants.{rolls-Not, rolls-Two}
+
+pub tree-not : (of : Expr) → tree (kept.Not of) ≡ Not (tree of)
+tree-not of = ap tree (sym (rolls-Not of)) ∙ fold-roll-Expr Tree layer (kept.Expr-F.Not of)
+
+pub tree-two : (op : Op) (left right : Expr) → tree (kept.Two op left right) ≡ Two op (tree left) (tree right)
+tree-two op left right = ap tree (sym (rolls-Two op left right)) ∙ fold-roll-Expr Tree layer (kept.Expr-F.Two op left right)

@@ -1,0 +1,10 @@
+use Rattle.std.proofs.Common.{◌≡◌, Option, Some, sym, ap, ◌∙◌}
+use Rattle.std.specs.Option.{option_map}
+use Rattle.nif_schema.specs.Declaration.{formula}
+use Rattle.nif_schema.specs.Reasons as spec
+use Rattle.nif_reasons.proofs.ReasonLemmas.{on}
+use Rattle.nif_reasons.proofs.formulas.formula_reason.Goals as goal
+
+pub returns-in-Read : goal.returns-in-Read
+returns-in-Read c = on c.expr_reason.result c.expr_reason.ensures (λ reason says schema fields insides has. let h = c.in-Some.is in let g = c.in-Read.is in
+    says schema fields insides has ∙ sym (ap (λ o. spec.formula_reason schema fields (option_map formula o)) (h ∙ ap Some g)))

@@ -1,0 +1,25 @@
+use Rattle.std.proofs.Common.{◌≡◌, ℕ, ◌++◌, ◌∷◌, [], List, None, Option, map, sym, ap, subst, ◌∙◌}
+use Rattle.std.specs.Option.{option_map_or}
+use Rattle.nif_schema.specs.Declaration.{Declaration, field}
+use Rattle.nif_reasons.specs.Shaped.{HasFields}
+use Rattle.nif_reasons.specs.Ways.{IsAt, IsWayFrom, fields_on}
+use Rattle.nif_reasons.proofs.WayLemmas.{way-pop, fields-push}
+use Rattle.nif_reasons.proofs.ways.leave.Goals as goal
+
+pub decl-requires : goal.decl-requires
+decl-requires c =
+    let S = c.args.schema.now in
+    (way-pop S None c.pop.new.self.items c.in-Some.number (subst (IsWayFrom S None) c.in-Some.ensures.items c.requires.way)).1
+
+pub returns-clause-at : goal.returns-clause-at
+returns-clause-at c =
+    let S = c.args.schema.now in
+    let n = c.in-Some.number in
+    let rest = c.pop.new.self.items in
+    let whole = c.in-Some.ensures.items in
+    let own = ap (λ (o : Option Declaration). option_map_or (λ d. d.fields) o []) c.decl.ensures in
+    record {
+      way = (way-pop S None rest n (subst (IsWayFrom S None) whole c.requires.way)).0;
+      fields = c.drop_fields.ensures (fields_on S rest)
+          (subst (λ l. HasFields S l c.args.way.now.names) (ap (fields_on S) whole ∙ fields-push S rest n ∙ ap (λ l. fields_on S rest ++ l) own) c.requires.fields);
+    }

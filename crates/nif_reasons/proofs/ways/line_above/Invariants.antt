@@ -1,0 +1,7 @@
+use Rattle.std.proofs.Common.{map, List}
+use Rattle.nif_schema.specs.Declaration.{field}
+use Rattle.nif_reasons.specs.Shaped.{HasFields}
+use Rattle.nif_reasons.proofs.ways.line_above.Given as goal
+
+abbrev pub invariant-loop-of : goal.invariant-loop-of
+invariant-loop-of l = HasFields l.schema (map (λ f. field f.now) l.yielded) l.line

@@ -1,0 +1,6 @@
+pub mod Answers
+pub mod FieldReasons
+pub mod Jumps
+pub mod Levels
+pub mod Shaped
+pub mod Ways

@@ -1,0 +1,31 @@
+-- The way from a root down to a type, and the fields on it.
+use Rattle.std.specs.Prelude.{ℕ, ◌≡◌, ◌<◌, List, [], ◌∷◌, length, flat_map, None, Some, Bool, false, slice_get}
+use Rattle.std.specs.Option.{option_map_or}
+use Rattle.nif_schema.specs.Uses.{is_struct}
+use Rattle.std.specs.declared.option.Option.{Option}
+use Rattle.nif_names.specs.Tables.{Table}
+use Rattle.nif_schema.specs.Declaration.{Field}
+use Rattle.nif_schema.specs.Schema.{Schema, parent, fields_of}
+use Rattle.nif_reasons.specs.Shaped.{HasFields}
+
+-- each is the child of the one before it, the first that of `above`
+abbrev pub IsWayFrom : Schema → Option ℕ → List ℕ → Type 0
+IsWayFrom schema above [] = Unit {0}
+IsWayFrom schema above (n ∷ ns) = (parent schema n ≡ above) × (n < length schema) × IsWayFrom schema (Some n) ns
+
+-- the last of a way, or what is above it
+abbrev pub last_or : Option ℕ → List ℕ → Option ℕ
+last_or above [] = above
+last_or above (n ∷ ns) = last_or (Some n) ns
+
+abbrev pub fields_on : Schema → List ℕ → List Field
+fields_on schema way = flat_map (fields_of schema) way
+
+-- a way from a root, with a table of the fields on it
+pub record IsAt (schema : Schema) (stack : List ℕ) (names : Table) : Type 0 where
+  pub way : IsWayFrom schema None stack
+  pub fields : HasFields schema (fields_on schema stack) names
+
+-- whether a struct has this number
+abbrev pub has_struct : Schema → ℕ → Bool
+has_struct schema number = option_map_or (λ d. is_struct d.what) (slice_get schema number) false

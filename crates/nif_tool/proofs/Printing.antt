@@ -1,0 +1,83 @@
+-- What is printed of an answer.
+use Rattle.std.proofs.Common.{◌≡◌, ℕ, List, Option, Some, None, take, refl, sym, subst, arith, Ok, Err}
+use Rattle.std.specs.Option.{IfSome, option_map}
+use Rattle.nif_base.specs.Shelf.{Files}
+use Rattle.nif_tool.specs.Command.{Command, SchemaName, CopyPlain}
+use Rattle.nif_tool.specs.Command as command
+use Rattle.nif_schema.specs.Schema.{Schema}
+use Rattle.nif_print.specs.Listing.{IsListing}
+use Rattle.nif_tool.specs.Steps.{Gets}
+use Rattle.nif_tool.specs.Schemas.{told_bytes}
+use Rattle.nif_tool.specs.Lines.{line_of}
+use Rattle.nif_tool.specs.Meaning.{Prints, Answers, CanAnswer, CopiesTold, HasCauses, Lists}
+use Rattle.nif_tool.specs.declared.report.Fault.{Fault}
+use Rattle.nif_tool.specs.declared.report.Fault.TheVariants as fault
+
+-- what holds of an answer and its text may be weaker
+pub prints_weaker : {P Q : Option Fault → List ℕ → Type 0} (answer : Option Fault) (text : List ℕ) → ((a : Option Fault) (t : List ℕ) → P a t → Q a t) → Prints P answer text → Prints Q answer text
+prints_weaker None text f p = f None text p
+prints_weaker (Some fault.Usage) text f p = f _ text p
+prints_weaker (Some (fault.Schema x)) text f p = f _ text p
+prints_weaker (Some (fault.First x)) text f p = f _ text p
+prints_weaker (Some fault.OpenFault) text f p = f _ text p
+prints_weaker (Some fault.ReadFault) text f p = f _ text p
+prints_weaker (Some fault.WriteFault) text f p = f _ text p
+prints_weaker (Some fault.PrintFault) text f p = (p.0, p.1, f p.0 p.1 p.2, p.3)
+prints_weaker (Some fault.NoMemory) text f p = f _ text p
+
+-- a copy that was refused
+pub copy_refused : (from to : List ℕ) (old new : Option Files) (refusal : Fault) (opens opens' reads reads' writes writes' : ℕ) (answer : Option Fault) (text : List ℕ)
+    → CanAnswer (CopyPlain from to) (Some refusal) → CopiesTold from to old new (Some refusal) → HasCauses (Some refusal) opens opens' reads reads' writes writes'
+    → (answer ≡ Some refusal) × (text ≡ line_of refusal) → Answers (Some (CopyPlain from to)) old new answer text × HasCauses answer opens opens' reads reads' writes writes'
+copy_refused from to old new refusal opens opens' reads reads' writes writes' answer text can copies causes is =
+    subst (λ a. Answers (Some (CopyPlain from to)) old new a text × HasCauses a opens opens' reads reads' writes writes') (sym is.0)
+    ((can, (copies, λ e. absurd (cc)), is.1), causes)
+
+-- words that are no command
+pub no_command : (files : Option Files) (opens reads writes : ℕ) (answer : Option Fault) (text : List ℕ) → (answer ≡ Some fault.Usage) × (text ≡ line_of fault.Usage)
+    → Answers None files files answer text × HasCauses answer opens opens reads reads writes writes
+no_command files opens reads writes answer text is = (
+  (is.0, refl, is.1),
+  record {
+    opens_later = omega arith;
+    reads_later = omega arith;
+    writes_later = omega arith;
+    opening = λ e. absurd (cc);
+    reading = λ e. absurd (cc);
+    writing = λ e. absurd (cc);
+  },
+)
+
+-- what passes is listed
+lists_of : (bytes : Option (Option (List ℕ))) (schema : Schema) (text : List ℕ) → IfSome bytes (λ b. Gets b (Ok schema)) → IsListing schema text → IfSome bytes (λ b. Lists b None text)
+lists_of None schema text passes listing = tt
+lists_of (Some None) schema text passes listing = passes
+lists_of (Some (Some b)) schema text passes listing = (schema, passes, listing)
+
+-- a schema that was listed
+pub schema_listed : (name : SchemaName) (old new : Option Files) (schema : Schema) (opens opens' reads reads' writes writes' : ℕ) (answer : Option Fault) (text : List ℕ)
+    → IfSome (told_bytes name old) (λ b. Gets b (Ok schema)) → new ≡ old → HasCauses None opens opens' reads reads' writes writes'
+    → (answer ≡ None) × IsListing schema text → Answers (Some (command.Schema name)) old new answer text × HasCauses answer opens opens' reads reads' writes writes'
+schema_listed name old new schema opens opens' reads reads' writes writes' answer text passes same causes is =
+    subst (λ a. Answers (Some (command.Schema name)) old new a text × HasCauses a opens opens' reads reads' writes writes') (sym is.0)
+    ((tt, (lists_of (told_bytes name old) schema text passes is.1, same), tt), causes)
+
+-- what is refused is refused so
+lists_refusal : (bytes : Option (Option (List ℕ))) (refusal : Fault) (text : List ℕ) → IfSome bytes (λ b. Gets b (Err refusal)) → IfSome bytes (λ b. Lists b (Some refusal) text)
+lists_refusal None refusal text h = tt
+lists_refusal (Some b) fault.Usage text h = tt
+lists_refusal (Some b) (fault.Schema r) text h = h
+lists_refusal (Some b) (fault.First r) text h = tt
+lists_refusal (Some b) fault.OpenFault text h = tt
+lists_refusal (Some b) fault.ReadFault text h = tt
+lists_refusal (Some b) fault.WriteFault text h = tt
+lists_refusal (Some b) fault.PrintFault text h = tt
+lists_refusal (Some b) fault.NoMemory text h = tt
+
+-- a schema that was refused
+pub schema_refused : (name : SchemaName) (old new : Option Files) (refusal : Fault) (opens opens' reads reads' writes writes' : ℕ) (answer : Option Fault) (text : List ℕ)
+    → CanAnswer (command.Schema name) (Some refusal) → IfSome (told_bytes name old) (λ b. Gets b (Err refusal)) → new ≡ old → HasCauses (Some refusal) opens opens' reads reads' writes writes'
+    → (answer ≡ Some refusal) × (text ≡ line_of refusal) → Answers (Some (command.Schema name)) old new answer text × HasCauses answer opens opens' reads reads' writes writes'
+schema_refused name old new refusal opens opens' reads reads' writes writes' answer text can gets same causes is =
+    subst (λ a. Answers (Some (command.Schema name)) old new a text × HasCauses a opens opens' reads reads' writes writes') (sym is.0)
+    ((can, (lists_refusal (told_bytes name old) refusal text gets, same), is.1), causes)

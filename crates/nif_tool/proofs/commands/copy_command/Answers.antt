@@ -1,0 +1,18 @@
+use Rattle.std.proofs.Common.{[], refl}
+use Rattle.nif_tool.specs.Meaning.{files_of}
+use Rattle.nif_tool.proofs.Printing.{prints_weaker, copy_refused}
+use Rattle.nif_tool.proofs.commands.copy_command.Goals as goal
+
+pub returns-in-Ok-clause-answer : goal.returns-in-Ok-clause-answer
+returns-in-Ok-clause-answer g c = ([], g.met.K.Sink.grew_same _, ((tt, (c.in-Ok.ensures.copies, λ _. refl), tt), c.in-Ok.ensures.causes))
+
+pub returns-in-Err-clause-answer : goal.returns-in-Err-clause-answer
+returns-in-Err-clause-answer g c =
+    let desk = g.S.Shelf.desk in
+    let refused = c.refuse.ensures.printed in
+    let told = c.in-Err.ensures in (
+      refused.0,
+      refused.1,
+      prints_weaker c.refuse.result refused.0 (λ answer text is.
+          copy_refused c.args.from.now c.args.to.now (files_of (desk c.args.shelf.now)) (files_of (desk c.copy.new.shelf)) c.in-Err.fault _ _ _ _ _ _ answer text told.answers told.copies told.causes is) refused.2,
+    )

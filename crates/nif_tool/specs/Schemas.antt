@@ -1,0 +1,49 @@
+-- What reading a schema comes to: the bytes declare a schema that keeps the rules of the header, or they are refused.
+use Rattle.std.specs.Prelude.{◌≡◌, ℕ, ◌≤◌, ◌<◌, ◌^◌, List, length, None, Some}
+use Rattle.std.specs.declared.option.Option.{Option}
+use Rattle.std.specs.Option.{option_map}
+use Rattle.std.specs.FinMap.{get}
+use Rattle.nif_base.specs.Shelf.{Files}
+use Rattle.nif_text.specs.Tree.{Tree}
+use Rattle.nif_text.specs.Documents.{Written}
+use Rattle.nif_schema.specs.Schema.{Schema}
+use Rattle.nif_schema.specs.Roles.{Roles, RoleFault}
+use Rattle.nif_schema.specs.declared.faults.SchemaFault.{SchemaFault}
+use Rattle.nif_schema.specs.declared.faults.SchemaFault.TheVariants as faults
+use Rattle.nif_read.specs.Schemas.{Declares, IsRefused}
+use Rattle.nif_builtin.specs.declared.builtin.TheConstants.{PLAIN, SCENE}
+use Rattle.nif_tool.specs.Command.{SchemaName, Plain, Scene, Named}
+
+-- the most bytes of a schema
+abbrev pub limit : ℕ
+limit = 2 ^ 22
+
+-- the bytes are those of a tree that declares this schema
+pub record Spells (bytes : List ℕ) (schema : Schema) : Type 0 where
+  pub within : length bytes ≤ limit
+  pub tree : Tree
+  pub written : Written tree bytes
+  pub declares : Declares tree schema
+
+-- the schema passes
+pub record Passes (bytes : List ℕ) (schema : Schema) : Type 0 where
+  pub spells : Spells bytes schema
+  pub roles : Roles schema
+
+-- the schema is refused with this fault
+abbrev pub Refuses : List ℕ → SchemaFault → Type 0
+Refuses bytes faults.SchemaTooLong = limit < length bytes
+Refuses bytes (faults.HeaderRole rule) = (schema : Schema) × Spells bytes schema × RoleFault schema rule
+Refuses bytes faults.NoMemory = ⊥
+Refuses bytes fault = (length bytes ≤ limit) × IsRefused bytes fault
+
+-- the bytes of a schema, if there are any; and they are told where it is built in or the files are
+abbrev pub bytes_of : SchemaName → Files → Option (List ℕ)
+bytes_of Plain files = Some PLAIN.now
+bytes_of Scene files = Some SCENE.now
+bytes_of (Named file) files = get files file
+
+abbrev pub told_bytes : SchemaName → Option Files → Option (Option (List ℕ))
+told_bytes Plain files = Some (Some PLAIN.now)
+told_bytes Scene files = Some (Some SCENE.now)
+told_bytes (Named file) files = option_map (λ d. get d file) files
