@@ -34,7 +34,12 @@ fn broken<R: Abort + AllocGlobal>(rt: &R, text: &[u8]) -> Result<u8, AllocError>
     }
 }
 
-const OF_PLAIN: [(&[u8], &[u8], u8); 3] = [
+const OF_PLAIN: [(&[u8], &[u8], u8); 4] = [
+    (
+        b"<field name=\"Version\" type=\"FileVersion\"/>",
+        b"<field name=\"Version\" type=\"FileVersion\" length=\"1\"/>",
+        3,
+    ),
     (
         b"<struct name=\"Footer\"><field name=\"Num Roots\" type=\"uint\"/><field name=\"Roots\" type=\"Ref\" template=\"PlainObject\" length=\"Num Roots\"/></struct>",
         b"",
@@ -48,7 +53,7 @@ const OF_PLAIN: [(&[u8], &[u8], u8); 3] = [
     (b"<field name=\"Num Blocks\" type=\"ulittle32\"/>", b"", 4),
 ];
 
-const OF_SCENE: [(&[u8], &[u8], u8); 96] = [
+const OF_SCENE: [(&[u8], &[u8], u8); 94] = [
     (
         b"<struct name=\"Footer\"><field name=\"Num Roots\" type=\"uint\"/><field name=\"Roots\" type=\"Ref\" template=\"SceneObject\" length=\"Num Roots\"/></struct>",
         b"",
@@ -118,11 +123,6 @@ const OF_SCENE: [(&[u8], &[u8], u8); 96] = [
     (
         b"<field name=\"Version\" type=\"FileVersion\"/>",
         b"<field name=\"Version\" type=\"FileVersion\" cond=\"1\"/>",
-        3,
-    ),
-    (
-        b"<field name=\"Version\" type=\"FileVersion\"/>",
-        b"<field name=\"Version\" type=\"FileVersion\" length=\"1\"/>",
         3,
     ),
     (
@@ -233,11 +233,6 @@ const OF_SCENE: [(&[u8], &[u8], u8); 96] = [
     (
         b"<field name=\"User Version\" type=\"ulittle32\" since=\"10.0.1.8\"/>",
         b"<field name=\"User Version\" type=\"uint\"/>",
-        5,
-    ),
-    (
-        b"<field name=\"User Version\" type=\"ulittle32\" since=\"10.0.1.8\"/>",
-        b"<field name=\"User Version\" type=\"ulittle32\" length=\"1\"/>",
         5,
     ),
     (

@@ -1,5 +1,5 @@
 -- Lists of shapes that are alike, and what the next name of a path means.
-use Rattle.std.proofs.Common.{◌≡◌, ℕ, ◌+◌, ◌<◌, ◌≤◌, ◌↔◌, ◌⊎◌, Bool, true, false, cond, not, ◌&&◌, ◌||◌, List, [], ◌∷◌, ◌++◌, length, map, flat_map, get_or, slice_get, drop, Contains, Option, Some, None, is_some, is_none, option_and_then, option_to_list, inl, inr, refl, sym, ap, subst, ◌∙◌, true≢false, arith}
+use Rattle.std.proofs.Common.{◌≡◌, ℕ, ◌<◌, ◌≤◌, ◌↔◌, ◌⊎◌, Bool, true, false, cond, not, ◌&&◌, ◌||◌, List, [], ◌∷◌, ◌++◌, length, map, flat_map, get_or, slice_get, drop, Contains, Option, Some, None, is_some, is_none, option_and_then, option_to_list, inl, inr, refl, sym, ap, subst, ◌∙◌, true≢false, arith}
 use Rattle.std.specs.List.{list_any, list_all}
 use Rattle.std.specs.Option.{option_map_or}
 use Rattle.std.proofs.lemmas.Grind.{flat_map-append}
@@ -11,12 +11,12 @@ use Rattle.std.proofs.lemmas.Option.{slice_get_cases, slice_get_past}
 use Rattle.nif_names.specs.declared.shapes.Shape.{Shape}
 use Rattle.nif_names.specs.Shapes.{inners, Alike}
 use Rattle.nif_names.specs.Tables.{Table, held}
-use Rattle.nif_schema.specs.Declaration.{Name, Field, Formula, Declaration}
+use Rattle.nif_schema.specs.Declaration.{Name, Field, Formula}
 use Rattle.nif_schema.specs.Schema.{Schema}
 use Rattle.nif_schema.specs.Uses.{named, what_at}
 use Rattle.nif_schema.specs.Paths.{Meaning, OfField, OfBits, goes_on, has_names, inside, inside_type, is_empty, ends_path, rest_reason, path_reason, fields_named, is_header_path}
 use Rattle.nif_schema.specs.declared.faults.Closed.TheVariants.{C5, C6}
-use Rattle.nif_reasons.specs.Shaped.{shape, field_shape, inner_of, with_names, lead, AreInsides, HasInside}
+use Rattle.nif_reasons.specs.Shaped.{shape, field_shape, inner_of, with_names, lead, AreInsides}
 use Rattle.nif_reasons.specs.Levels.{held_at, IsAdded, IsLevel, HasLevel}
 
 abbrev Same : List ℕ → List ℕ → Type 0

@@ -1,8 +1,8 @@
 -- The reasons that aren't of fields.
-use Rattle.std.proofs.Common.{◌≡◌, ℕ, zero, suc, ◌+◌, Bool, true, false, List, [], ◌∷◌, ◌++◌, length, Option, Some, None, is_some, is_none, option_and_then, slice_get, refl, sym, ap, ◌∙◌}
+use Rattle.std.proofs.Common.{◌≡◌, ℕ, zero, suc, Bool, true, false, List, [], ◌∷◌, length, Option, Some, None, is_some, is_none, option_and_then, slice_get, refl, sym, ap, ◌∙◌}
 use Rattle.std.specs.List.{list_any}
 use Rattle.std.specs.Option.{option_map_or}
-use Rattle.nif_schema.specs.Declaration.{Name, Declaration, Field}
+use Rattle.nif_schema.specs.Declaration.{Name, Declaration}
 use Rattle.nif_schema.specs.Schema.{Schema, ancestor, fields_of}
 use Rattle.nif_schema.specs.Uses.{is_struct}
 use Rattle.nif_schema.specs.Paths.{storage_width}
@@ -15,8 +15,7 @@ use Rattle.nif_schema.specs.declared.members.BitMember.{BitMember}
 use Rattle.nif_schema.specs.declared.faults.Closed.{Closed}
 use Rattle.nif_schema.specs.declared.faults.Closed.TheVariants.{C0, C2, C3, C10, C13}
 use Rattle.nif_reasons.specs.Ways.{has_struct}
-use Rattle.std.proofs.lemmas.Option.{slice_get_cases}
-use Rattle.std.proofs.Common.{◌<◌, ◌≤◌, ◌⊎◌, inl, inr, arith}
+use Rattle.std.proofs.Common.{◌<◌, arith}
 use Rattle.nif_reasons.specs.FieldReasons.{type_reason, early_reason}
 use Rattle.nif_reasons.proofs.ReasonLemmas.{first-append, first-only, first-moved, three, first-here, first-later}
 

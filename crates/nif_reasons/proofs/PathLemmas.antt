@@ -1,8 +1,7 @@
 -- Paths, name by name.
-use Rattle.std.proofs.Common.{◌≡◌, ◌≢◌, ℕ, ◌+◌, ◌<◌, ◌≤◌, ◌↔◌, Bool, true, false, cond, not, ◌&&◌, ◌||◌, List, [], ◌∷◌, ◌++◌, length, map, flat_map, get_or, slice_get, Contains, Option, Some, None, is_some, is_none, option_and_then, option_to_list, codes, bytes_eq, inl, inr, refl, sym, ap, subst, ◌∙◌, true≢false, arith}
-use Rattle.nif_schema.specs.Declaration.{Name, Field}
-use Rattle.nif_schema.specs.Schema.{Schema}
-use Rattle.nif_schema.specs.Paths.{Meaning, OfField, OfBits, is_header_path}
+use Rattle.std.proofs.Common.{◌≡◌, ◌≢◌, false, ◌&&◌, ◌||◌, List, [], ◌∷◌, length, get_or, codes, bytes_eq, refl, ap, ◌∙◌, arith}
+use Rattle.nif_schema.specs.Declaration.{Name}
+use Rattle.nif_schema.specs.Paths.{is_header_path}
 
 pub header-one : (p : List Name) (first : Name) → length p ≡ 1 → first ≡ get_or p 0 []
     → (bytes_eq first (codes "Version") || (bytes_eq first (codes "User Version") || bytes_eq first (codes "User Version 2"))) ≡ is_header_path p

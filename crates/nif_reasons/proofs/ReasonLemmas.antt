@@ -5,7 +5,7 @@ use Rattle.std.proofs.Common.{◌≢◌, not, ◌&&◌, ◌||◌, filter, bytes_
 use Rattle.std.specs.List.{list_any, list_all}
 use Rattle.nif_names.specs.declared.shapes.Shape.{Shape}
 use Rattle.nif_schema.specs.Declaration.{Name, Field, Formula, Read, Bad}
-use Rattle.nif_schema.specs.Expression.{Tree, Number, Arg, Path, Not, Two}
+use Rattle.nif_schema.specs.Expression.{Number, Arg, Path, Not, Two}
 use Rattle.nif_schema.specs.Schema.{Schema}
 use Rattle.nif_schema.specs.Paths.{OfField, fields_named, is_empty, is_number, is_number_array}
 use Rattle.nif_reasons.specs.FieldReasons.{bare_name}

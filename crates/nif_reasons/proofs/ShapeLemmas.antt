@@ -1,5 +1,5 @@
 -- What fields and types may stand for.
-use Rattle.std.proofs.Common.{◌≡◌, ℕ, ◌<◌, ◌&&◌, Bool, true, false, cond, not, List, [], ◌∷◌, length, Option, None, Some, option_and_then, option_map, slice_get, is_some, is_none, refl, sym, ap, ◌∙◌}
+use Rattle.std.proofs.Common.{◌≡◌, ℕ, ◌&&◌, Bool, true, false, cond, not, Option, None, Some, option_and_then, option_map, slice_get, is_some, is_none, refl, sym, ap, ◌∙◌}
 use Rattle.std.specs.Option.{option_map_or}
 use Rattle.nif_names.specs.declared.shapes.Shape.{Shape}
 use Rattle.nif_schema.specs.Declaration.{Name, Field, Formula, Declaration}
@@ -7,7 +7,6 @@ use Rattle.nif_schema.specs.Schema.{Schema, find}
 use Rattle.nif_schema.specs.Uses.{named, what_at}
 use Rattle.nif_schema.specs.Paths.{integer_width, storage_width, is_number_type, has_names}
 use Rattle.nif_reasons.specs.Shaped.{with_names, inner_of, field_shape}
-use Rattle.nif_schema.specs.declared.decls.What.{What}
 
 module _ (S : Schema) where
   pub storage-none : (storage : Option Name) → storage ≡ None → None ≡ storage_width S storage

@@ -1,5 +1,5 @@
 -- Trees of expressions, one layer at a time.
-use Rattle.std.proofs.Common.{◌≡◌, rules, ap, sym, ◌∙◌}
+use Rattle.std.proofs.Common.{◌≡◌, ap, sym, ◌∙◌}
 use Rattle.nif_schema.specs.Expression.{Tree, Not, Two, tree, layer}
 use Rattle.nif_schema.specs.declared.exprs.Op.{Op}
 use Rattle.nif_schema.specs.declared.exprs.Expr.{Expr, fold-Expr, fold-roll-Expr}

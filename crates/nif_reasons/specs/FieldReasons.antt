@@ -1,8 +1,8 @@
 -- The reason that a field gives, in parts.
 use Rattle.std.specs.Prelude.{ℕ, Bool, ◌||◌, List, [], ◌∷◌, None, Some, length, slice_get, option_and_then}
 use Rattle.std.specs.declared.option.Option.{Option}
-use Rattle.nif_schema.specs.Declaration.{Name, Field, Formula, Read, Bad}
-use Rattle.nif_schema.specs.Expression.{Tree, Number, Arg, Path, Not, Two}
+use Rattle.nif_schema.specs.Declaration.{Name, Field, Formula, Read}
+use Rattle.nif_schema.specs.Expression.{Path}
 use Rattle.nif_schema.specs.Schema.{Schema}
 use Rattle.nif_schema.specs.Reasons.{first_reason, reason_where, kind_reason, template_reason, is_bad_bound, is_no_block, is_bad_exact, formula_reason, width_reason, width_where, is_unread, has_bad_member, lacks_parent, has_no_root, ancestor_lacks}
 use Rattle.nif_schema.specs.declared.decls.What.{What}

@@ -1,5 +1,5 @@
 -- Where so many steps from child to parent lead.
-use Rattle.std.specs.Prelude.{ℕ, ◌≡◌, ◌<◌, ◌||◌, false, List, length, map, None, Some, IfSome, slice_get, slice_index_or}
+use Rattle.std.specs.Prelude.{ℕ, ◌≡◌, ◌<◌, ◌||◌, false, List, length, None, Some, IfSome, slice_get, slice_index_or}
 use Rattle.std.specs.Option.{option_map_or}
 use Rattle.nif_schema.specs.Schema.{Schema, ancestor}
 use Rattle.nif_schema.specs.Reasons.{ancestor_lacks}

@@ -1,5 +1,5 @@
 -- What the names of a schema may stand for, as shapes.
-use Rattle.std.specs.Prelude.{ℕ, ◌≡◌, ◌<◌, ◌&&◌, Bool, true, false, if◌then◌else◌, List, [], length, map, Some, None, slice_get, is_none, option_and_then}
+use Rattle.std.specs.Prelude.{ℕ, ◌≡◌, ◌<◌, Bool, true, false, if◌then◌else◌, List, [], length, map, Some, None, slice_get, is_none, option_and_then}
 use Rattle.std.specs.declared.option.Option.{Option}
 use Rattle.std.specs.Option.{option_map_or}
 use Rattle.nif_names.specs.declared.shapes.Shape.{Shape}

@@ -1,10 +1,10 @@
-use Rattle.std.proofs.Common.{◌≡◌, [], ◌∷◌, ◌++◌, ◌||◌, List, Bool, Option, Some, None, sym, ap, ◌∙◌}
+use Rattle.std.proofs.Common.{◌≡◌, [], ◌∷◌, ◌||◌, List, Bool, sym, ap, ◌∙◌}
 use Rattle.nif_schema.specs.Declaration.{Field, field}
 use Rattle.nif_schema.specs.Schema.{Schema}
 use Rattle.nif_schema.specs.Reasons as spec
 use Rattle.nif_schema.specs.declared.faults.Closed.TheVariants.{C4, C11, C12}
 use Rattle.nif_reasons.specs.FieldReasons.{plain_reason, condition_reason, size_reason}
-use Rattle.nif_reasons.proofs.ReasonLemmas.{on, pair-none, pair-some, first-none, first-here, first-later, first-append, first-twice, three}
+use Rattle.nif_reasons.proofs.ReasonLemmas.{on, pair-none, pair-some, first-here, first-later, three}
 use Rattle.nif_reasons.proofs.fields.field_reason.Goals as goal
 
 parts : (S : Schema) (s : Bool) (earlier : List Field) (f : Field)

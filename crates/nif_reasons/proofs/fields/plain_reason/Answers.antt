@@ -1,7 +1,6 @@
-use Rattle.std.proofs.Common.{◌≡◌, ◌||◌, Bool, true, false, [], ◌∷◌, List, Option, Some, None, refl, sym, ap, ◌∙◌}
+use Rattle.std.proofs.Common.{◌||◌, true, false, sym, ap, ◌∙◌}
 use Rattle.nif_schema.specs.Declaration.{field}
 use Rattle.nif_schema.specs.Reasons as spec
-use Rattle.nif_schema.specs.declared.faults.Closed.{Closed}
 use Rattle.nif_reasons.specs.FieldReasons.{plain_reason}
 use Rattle.nif_reasons.proofs.ReasonLemmas.{whole, whole-kind, whole-template, whole-bound, whole-block, whole-exact}
 use Rattle.nif_reasons.proofs.fields.plain_reason.Goals as goal

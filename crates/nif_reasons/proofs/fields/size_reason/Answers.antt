@@ -1,4 +1,4 @@
-use Rattle.std.proofs.Common.{◌≡◌, [], ◌∷◌, Option, Some, None, sym, ap, ◌∙◌}
+use Rattle.std.proofs.Common.{[], ◌∷◌, sym, ap, ◌∙◌}
 use Rattle.nif_schema.specs.Declaration.{field, formula}
 use Rattle.nif_schema.specs.Reasons as spec
 use Rattle.nif_reasons.specs.FieldReasons.{size_reason}

@@ -1,4 +1,4 @@
-use Rattle.std.proofs.Common.{◌≡◌, ◌++◌, [], ◌∷◌, map, Option, Some, None, sym, ap, ◌∙◌}
+use Rattle.std.proofs.Common.{map, sym, ap, ◌∙◌}
 use Rattle.nif_schema.specs.Expression.{tree}
 use Rattle.nif_schema.specs.Paths.{path_reason, paths_of}
 use Rattle.nif_schema.specs.Reasons.{first_reason}

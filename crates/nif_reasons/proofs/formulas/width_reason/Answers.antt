@@ -1,10 +1,7 @@
-use Rattle.std.proofs.Common.{◌≡◌, ◌∷◌, [], map, Option, Some, None, sym, ap, ◌∙◌}
-use Rattle.std.specs.Option.{option_map, option_map_or}
+use Rattle.std.proofs.Common.{sym, ap, ◌∙◌}
+use Rattle.std.specs.Option.{option_map}
 use Rattle.nif_names.specs.Tables.{held}
 use Rattle.nif_schema.specs.Declaration.{formula}
-use Rattle.nif_schema.specs.Paths.{fields_named}
-use Rattle.nif_schema.specs.Reasons as spec
-use Rattle.nif_reasons.specs.Shaped.{shape}
 use Rattle.nif_reasons.proofs.ReasonLemmas.{on, width-plain, width-absent, width-there}
 use Rattle.nif_reasons.proofs.formulas.width_reason.Goals as goal
 

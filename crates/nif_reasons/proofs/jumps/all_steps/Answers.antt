@@ -1,4 +1,4 @@
-use Rattle.std.proofs.Common.{◌≡◌, ℕ, ◌+◌, ◌*◌, ◌/◌, ◌%◌, List, length, subst, sym, ap, ◌∙◌, arith}
+use Rattle.std.proofs.Common.{◌+◌, length, subst, sym}
 use Rattle.nif_reasons.specs.Jumps.{AreJumps}
 use Rattle.nif_reasons.proofs.JumpLemmas.{halves, halves_even, nothing_left}
 use Rattle.nif_reasons.proofs.jumps.all_steps.Goals as goal

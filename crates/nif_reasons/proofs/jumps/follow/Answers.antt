@@ -1,6 +1,5 @@
-use Rattle.std.proofs.Common.{◌≡◌, ℕ, ◌||◌, Bool, get_or, Option, sym, ap, ◌∙◌}
+use Rattle.std.proofs.Common.{ℕ, ◌||◌, get_or, Option, sym, ap, ◌∙◌}
 use Rattle.std.specs.Option.{option_map_or}
-use Rattle.nif_reasons.specs.declared.jumps.Jump.{Jump}
 use Rattle.nif_reasons.specs.Jumps.{follow, no_jump}
 use Rattle.nif_reasons.proofs.JumpLemmas.{follow-at}
 use Rattle.nif_reasons.proofs.jumps.follow.Goals as goal

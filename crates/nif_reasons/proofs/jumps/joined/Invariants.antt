@@ -1,4 +1,4 @@
-use Rattle.std.proofs.Common.{◌≡◌, ℕ, map, take}
+use Rattle.std.proofs.Common.{◌≡◌, map, take}
 use Rattle.nif_reasons.specs.Jumps.{follow}
 use Rattle.nif_reasons.proofs.jumps.joined.Given as goal
 

@@ -1,4 +1,4 @@
-use Rattle.std.proofs.Common.{◌≡◌, sym, ap, ◌∙◌}
+use Rattle.std.proofs.Common.{sym}
 use Rattle.nif_schema.specs.Declaration.{declaration}
 use Rattle.nif_reasons.proofs.JumpLemmas.{lacks-none, lacks-found, lacks-lost}
 use Rattle.nif_reasons.proofs.jumps.lacks_parent.Goals as goal

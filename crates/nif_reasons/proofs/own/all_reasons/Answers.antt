@@ -1,8 +1,7 @@
-use Rattle.std.proofs.Common.{◌≡◌, ◌+◌, ◌<◌, ℕ, List, Option, Some, None, IfSome, length, slice_get, refl, sym, ap, subst, ◌++◌, ◌∷◌, [], ◌∙◌, arith}
+use Rattle.std.proofs.Common.{◌≡◌, ◌<◌, Option, Some, None, IfSome, length, slice_get, refl, sym, ap, ◌∷◌, [], ◌∙◌, arith}
 use Rattle.std.proofs.lemmas.List.{length-append}
 use Rattle.std.proofs.lemmas.Option.{slice_get-get_or}
 use Rattle.nif_schema.specs.Reasons.{own_reason}
-use Rattle.nif_reasons.specs.declared.own.Found.{Found}
 use Rattle.nif_reasons.proofs.Lists.{below-push}
 use Rattle.nif_reasons.proofs.own.all_reasons.Goals as goal
 

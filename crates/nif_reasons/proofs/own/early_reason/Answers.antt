@@ -1,11 +1,11 @@
-use Rattle.std.proofs.Common.{◌≡◌, ◌<◌, arith, ℕ, Bool, length, get_or, option_and_then, Option, slice_get, is_some, true, false, sym, ap, ◌∙◌}
+use Rattle.std.proofs.Common.{◌<◌, arith, length, get_or, option_and_then, Option, slice_get, is_some, sym, ap, ◌∙◌}
 use Rattle.std.proofs.lemmas.Option.{slice_get-get_or}
 use Rattle.nif_schema.specs.Declaration.{Declaration}
 use Rattle.nif_schema.specs.Schema.{ancestor}
 use Rattle.nif_schema.specs.Reasons.{lacks_parent, ancestor_lacks}
 use Rattle.nif_reasons.specs.FieldReasons.{type_reason}
-use Rattle.nif_reasons.specs.Jumps.{IsJump, no_jump}
-use Rattle.nif_reasons.proofs.OwnLemmas.{four, four-first, four-second, four-third, four-last, early-is}
+use Rattle.nif_reasons.specs.Jumps.{no_jump}
+use Rattle.nif_reasons.proofs.OwnLemmas.{four-first, four-second, four-third, four-last, early-is}
 use Rattle.nif_reasons.proofs.own.early_reason.Goals as goal
 
 pub returns-then-lacks_parent : goal.returns-then-lacks_parent

@@ -1,4 +1,4 @@
-use Rattle.std.proofs.Common.{◌≡◌, false, drop}
+use Rattle.std.proofs.Common.{◌≡◌, drop}
 use Rattle.std.specs.List.{list_any}
 use Rattle.nif_schema.specs.Reasons.{is_bad_member}
 use Rattle.nif_reasons.proofs.own.has_bad_member.Given as goal

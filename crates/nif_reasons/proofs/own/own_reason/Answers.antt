@@ -1,4 +1,4 @@
-use Rattle.std.proofs.Common.{◌≡◌, ℕ, is_some, sym, ap, ◌∙◌}
+use Rattle.std.proofs.Common.{is_some, sym, ap, ◌∙◌}
 use Rattle.nif_reasons.proofs.ReasonLemmas.{on}
 use Rattle.nif_reasons.proofs.OwnLemmas.{early-ends, own-whole, own-early}
 use Rattle.nif_reasons.proofs.own.own_reason.Goals as goal

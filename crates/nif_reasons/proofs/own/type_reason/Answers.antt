@@ -1,4 +1,4 @@
-use Rattle.std.proofs.Common.{◌≡◌, true, false, sym, ap, ◌∙◌}
+use Rattle.std.proofs.Common.{true, false, sym}
 use Rattle.nif_reasons.proofs.OwnLemmas.{type-storage, type-members, type-unread, type-basic, type-other}
 use Rattle.nif_reasons.proofs.own.type_reason.Goals as goal
 

@@ -1,5 +1,4 @@
-use Rattle.std.proofs.Common.{◌≡◌, sym, ap, ◌∙◌}
-use Rattle.nif_schema.specs.Paths.{is_header_path}
+use Rattle.std.proofs.Common.{sym, ◌∙◌}
 use Rattle.nif_reasons.proofs.PathLemmas.{header-one, header-two, header-other}
 use Rattle.nif_reasons.proofs.paths.is_header_path.Goals as goal
 

@@ -1,13 +1,10 @@
-use Rattle.std.proofs.Common.{◌≡◌, ◌≢◌, ◌<◌, ◌≤◌, ◌+◌, ℕ, List, [], ◌∷◌, ◌++◌, Bool, true, false, not, length, map, drop, get_or, Option, Some, None, cond, flat_map, if◌then◌else◌, refl, sym, ap, subst, ◌∙◌, arith}
-use Rattle.std.specs.Option.{option_map_or}
+use Rattle.std.proofs.Common.{◌≡◌, ◌<◌, ◌≤◌, ◌+◌, [], ◌++◌, length, map, drop, get_or, Some, None, cond, flat_map, sym, ap, subst, ◌∙◌, arith}
 use Rattle.nif_names.specs.Shapes.{Alike}
 use Rattle.nif_names.specs.Tables.{held}
-use Rattle.nif_schema.specs.Declaration.{Field}
-use Rattle.nif_schema.specs.Schema.{Schema}
-use Rattle.nif_schema.specs.Paths.{fields_named, inside, rest_reason, path_reason, is_header_path, goes_on}
+use Rattle.nif_schema.specs.Paths.{fields_named, inside, rest_reason}
 use Rattle.nif_schema.specs.declared.faults.Closed.TheVariants.{C6}
 use Rattle.nif_reasons.specs.Shaped.{shape}
-use Rattle.nif_reasons.specs.Levels.{IsLevel, HasLevel}
+use Rattle.nif_reasons.specs.Levels.{HasLevel}
 use Rattle.nif_reasons.proofs.Lists.{drop-at, drop_past}
 use Rattle.nif_reasons.proofs.LevelLemmas.{first-none, first-some, reason-end, reason-stop, reason-lacks, reason-next, go-on}
 use Rattle.nif_reasons.proofs.paths.path_reason.Goals as goal

@@ -1,8 +1,7 @@
-use Rattle.std.proofs.Common.{◌≡◌, ◌&&◌, Bool, ℕ, Option, None, true, false, sym, ap, ◌∙◌, is_none, is_some}
+use Rattle.std.proofs.Common.{◌&&◌, Bool, ℕ, Option, false, sym, ap, ◌∙◌, is_none}
 use Rattle.nif_names.specs.declared.shapes.Shape.{Shape}
 use Rattle.nif_schema.specs.Declaration.{declaration, field, formula}
 use Rattle.nif_schema.specs.Paths.{is_number_type}
-use Rattle.nif_reasons.specs.Shaped.{with_names}
 use Rattle.nif_reasons.proofs.ShapeLemmas.{shape-none, shape-one, shape-row, none_mapped, some_mapped, row_then, row_else}
 use Rattle.nif_reasons.proofs.shapes.field_shape.Goals as goal
 

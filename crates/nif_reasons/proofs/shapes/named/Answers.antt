@@ -1,4 +1,4 @@
-use Rattle.std.proofs.Common.{◌≡◌, ℕ, cond, Bool, Option, None, sym, ap, ◌∙◌}
+use Rattle.std.proofs.Common.{cond, Bool, None, sym, ap, ◌∙◌}
 use Rattle.nif_schema.specs.Schema.{find}
 use Rattle.nif_schema.specs.Uses.{named}
 use Rattle.nif_reasons.proofs.shapes.named.Goals as goal

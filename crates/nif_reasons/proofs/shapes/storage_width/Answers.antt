@@ -1,4 +1,4 @@
-use Rattle.std.proofs.Common.{◌≡◌, sym, ap, ◌∙◌, Some}
+use Rattle.std.proofs.Common.{sym, ap, ◌∙◌}
 use Rattle.nif_schema.specs.Declaration.{declaration}
 use Rattle.nif_schema.specs.Schema.{find}
 use Rattle.nif_reasons.proofs.ShapeLemmas.{storage-none, storage-lost, storage-found}

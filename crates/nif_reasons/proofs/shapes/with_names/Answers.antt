@@ -1,4 +1,4 @@
-use Rattle.std.proofs.Common.{◌≡◌, true, false, sym, ◌∙◌}
+use Rattle.std.proofs.Common.{true, false, sym, ◌∙◌}
 use Rattle.nif_schema.specs.Declaration.{declaration}
 use Rattle.nif_reasons.proofs.ShapeLemmas.{names-at}
 use Rattle.nif_reasons.proofs.shapes.with_names.Goals as goal

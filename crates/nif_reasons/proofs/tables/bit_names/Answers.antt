@@ -1,5 +1,4 @@
-use Rattle.std.proofs.Common.{◌≡◌, ◌+◌, ◌++◌, ◌∷◌, [], take, refl, sym, ap, subst, ◌∙◌}
-use Rattle.std.proofs.lemmas.List.{take_all}
+use Rattle.std.proofs.Common.{take, sym, subst}
 use Rattle.nif_reasons.specs.Shaped.{HasBits}
 use Rattle.nif_reasons.proofs.Lists.{take-next}
 use Rattle.nif_reasons.proofs.tables.bit_names.Goals as goal

@@ -1,4 +1,4 @@
-use Rattle.std.proofs.Common.{◌≡◌, IfOk, Ok, Err, Result, sym, ap, ◌∙◌}
+use Rattle.std.proofs.Common.{IfOk, Ok, Err, Result}
 use Rattle.nif_schema.specs.Declaration.{declaration}
 use Rattle.nif_reasons.proofs.TableLemmas.{HasInside-struct, HasInside-stored, HasInside-other}
 use Rattle.nif_reasons.proofs.tables.inside_names.Goals as goal

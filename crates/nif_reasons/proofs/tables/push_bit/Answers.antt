@@ -1,10 +1,10 @@
-use Rattle.std.proofs.Common.{◌≡◌, ℕ, ◌++◌, ◌∷◌, [], List, cond, bytes_eq, OnOk, Ok, Err, Result, sym, ap, subst, ◌∙◌}
+use Rattle.std.proofs.Common.{◌≡◌, ◌++◌, ◌∷◌, [], List, cond, bytes_eq, OnOk, Ok, Err, Result, sym, ap, ◌∙◌}
 use Rattle.std.specs.Option.{option_map_or}
 use Rattle.std.proofs.Common.{◌≢◌, Option, Some, None, IfSome, is_some, true, false, refl}
 use denote.Bor.{Bor}
 use Rattle.nif_names.specs.declared.shapes.Shape.{Shape}
 use Rattle.nif_names.specs.Tables.{held}
-use Rattle.nif_reasons.specs.Shaped.{HasBits, bit_shape}
+use Rattle.nif_reasons.specs.Shaped.{bit_shape}
 use Rattle.nif_reasons.proofs.TableLemmas.{HasBits-again, HasBits-push}
 use Rattle.nif_reasons.proofs.tables.push_bit.Goals as goal
 

@@ -1,6 +1,6 @@
-use Rattle.std.proofs.Common.{◌≡◌, ◌+◌, ◌<◌, ◌≤◌, ◌∷◌, [], ◌++◌, List, length, map, take, drop, Option, Some, None, slice_get, refl, sym, ap, subst, ◌∙◌, arith}
-use Rattle.std.proofs.lemmas.List.{append_assoc, append-nil, map-append, take_all}
-use Rattle.nif_schema.specs.Declaration.{Field, field}
+use Rattle.std.proofs.Common.{◌≡◌, ◌+◌, ◌≤◌, ◌∷◌, [], ◌++◌, length, map, take, drop, sym, ap, subst, ◌∙◌, arith}
+use Rattle.std.proofs.lemmas.List.{append_assoc, map-append, take_all}
+use Rattle.nif_schema.specs.Declaration.{field}
 use Rattle.nif_schema.specs.Reasons.{first_reason, field_reason, fields_reason}
 use Rattle.nif_reasons.specs.Shaped.{HasFields}
 use Rattle.nif_reasons.proofs.Lists.{take-next, drop-next, drop_past}

@@ -1,10 +1,9 @@
-use Rattle.std.proofs.Common.{◌≡◌, ℕ, ◌++◌, ◌∷◌, [], List, None, Option, false, map, sym, ap, subst, ◌∙◌}
+use Rattle.std.proofs.Common.{◌++◌, [], None, Option, false, map, sym, ap, subst, ◌∙◌}
 use Rattle.std.specs.Option.{option_map_or}
 use Rattle.nif_schema.specs.Declaration.{Declaration, field}
 use Rattle.nif_schema.specs.Reasons as spec
-use Rattle.nif_schema.specs.Schema.{fields_of}
 use Rattle.nif_reasons.specs.Shaped.{HasFields}
-use Rattle.nif_reasons.specs.Ways.{IsAt, IsWayFrom, fields_on, has_struct}
+use Rattle.nif_reasons.specs.Ways.{IsAt, fields_on, has_struct}
 use Rattle.nif_schema.specs.Uses.{is_struct}
 use Rattle.nif_reasons.proofs.WayLemmas.{way-push, fields-push}
 use Rattle.nif_reasons.proofs.ways.enter.Goals as goal

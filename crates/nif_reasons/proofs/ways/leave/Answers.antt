@@ -1,8 +1,8 @@
-use Rattle.std.proofs.Common.{◌≡◌, ℕ, ◌++◌, ◌∷◌, [], List, None, Option, map, sym, ap, subst, ◌∙◌}
+use Rattle.std.proofs.Common.{◌++◌, [], None, Option, ap, subst, ◌∙◌}
 use Rattle.std.specs.Option.{option_map_or}
-use Rattle.nif_schema.specs.Declaration.{Declaration, field}
+use Rattle.nif_schema.specs.Declaration.{Declaration}
 use Rattle.nif_reasons.specs.Shaped.{HasFields}
-use Rattle.nif_reasons.specs.Ways.{IsAt, IsWayFrom, fields_on}
+use Rattle.nif_reasons.specs.Ways.{IsWayFrom, fields_on}
 use Rattle.nif_reasons.proofs.WayLemmas.{way-pop, fields-push}
 use Rattle.nif_reasons.proofs.ways.leave.Goals as goal
 

@@ -1,4 +1,4 @@
-use Rattle.std.proofs.Common.{◌≡◌, ℕ, length, sym, ap, ◌∙◌}
+use Rattle.std.proofs.Common.{length, sym}
 use Rattle.nif_reasons.proofs.WayLemmas.{parent-ends}
 use Rattle.nif_reasons.proofs.ways.line_above.Goals as goal
 

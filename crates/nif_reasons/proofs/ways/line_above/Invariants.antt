@@ -1,4 +1,4 @@
-use Rattle.std.proofs.Common.{map, List}
+use Rattle.std.proofs.Common.{map}
 use Rattle.nif_schema.specs.Declaration.{field}
 use Rattle.nif_reasons.specs.Shaped.{HasFields}
 use Rattle.nif_reasons.proofs.ways.line_above.Given as goal

@@ -1,4 +1,4 @@
-use Rattle.std.proofs.Common.{◌≡◌, ◌∷◌, [], sym, ap, ◌∙◌}
+use Rattle.std.proofs.Common.{◌∷◌, [], sym, ◌∙◌}
 use Rattle.nif_schema.specs.Declaration.{field}
 use Rattle.nif_schema.specs.Reasons as spec
 use Rattle.nif_reasons.proofs.ReasonLemmas.{on, first-here, first-later, first-only}

@@ -1,4 +1,4 @@
-use Rattle.std.proofs.Common.{◌≡◌, None, refl, sym, ap, ◌∙◌}
+use Rattle.std.proofs.Common.{refl, sym, ap, ◌∙◌}
 use Rattle.nif_schema.specs.Schema.{fields_of}
 use Rattle.nif_schema.specs.Reasons as spec
 use Rattle.nif_reasons.specs.Ways.{has_struct}
