@@ -210,8 +210,8 @@ impl Region {
         ensures spare { SpareFalls self.old self.new 0 0 }
         ensures bounded { IsBounded self.new }
     {
-        let head = self.places[run.key];
-        self.cells[head + 1 + place as usize] = cell;
+        let first = self.places[run.key];
+        self.cells[first + 1 + place as usize] = cell;
     }
 
     /// Gives a live run back. Where more cells are then dead than live, the live runs slide together.
