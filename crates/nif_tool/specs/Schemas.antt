@@ -37,12 +37,7 @@ Refuses bytes (faults.HeaderRole rule) = (schema : Schema) × Spells bytes schem
 Refuses bytes faults.NoMemory = ⊥
 Refuses bytes fault = (length bytes ≤ limit) × IsRefused bytes fault
 
--- the bytes of a schema, if there are any; and they are told where it is built in or the files are
-abbrev pub bytes_of : SchemaName → Files → Option (List ℕ)
-bytes_of Plain files = Some PLAIN.now
-bytes_of Scene files = Some SCENE.now
-bytes_of (Named file) files = get files file
-
+-- The bytes of a schema, if it is there. They are told where it is built in, or where the files are told.
 abbrev pub told_bytes : SchemaName → Option Files → Option (Option (List ℕ))
 told_bytes Plain files = Some (Some PLAIN.now)
 told_bytes Scene files = Some (Some SCENE.now)
