@@ -16,9 +16,9 @@ pub fn words(alloc: Global, line: &str) -> Result<Vec<String>, Fail> {
     Ok(words)
 }
 
-/// How a line is run: the shelf gives and takes at most `piece` bytes a call. The call of the shelf of the number
-/// `failing`, from 0, is refused, and of `out` the write `unprinted`.
-#[derive(Clone, Copy)]
+/// How a line is run: the shelf and `out` give and take at most `piece` bytes a call. The call of the shelf of the
+/// number `failing`, from 0, is refused, and of `out` the write `unprinted`.
+#[derive(Drop, Clone, Copy)]
 pub struct Setting {
     pub piece: usize,
     pub failing: Option<u64>,
@@ -26,6 +26,7 @@ pub struct Setting {
 }
 
 /// What a line came to: its status, what was printed, and OUT if it is there.
+#[derive(Drop)]
 pub struct Answer {
     pub status: Status,
     pub printed: Vec<u8>,
@@ -33,7 +34,7 @@ pub struct Answer {
 }
 
 /// Runs a line on a shelf that has `file` as F. No other file than OUT changes.
-pub fn answer<R: Abort + AllocGlobal>(
+pub fn run_line<R: Abort + AllocGlobal>(
     rt: &R,
     line: &str,
     file: &[u8],
@@ -48,7 +49,7 @@ pub fn answer<R: Abort + AllocGlobal>(
     if let Some(call) = setting.failing {
         shelf.fail_call(call)?;
     }
-    let mut out = MemSink::new(alloc, 4096, setting.unprinted);
+    let mut out = MemSink::new(alloc, setting.piece, setting.unprinted);
     let report = run(alloc, words(alloc, line)?.as_slice(), &mut shelf, &mut out);
     assert_eq!(rt; shelf.file("F"), Some(file));
     assert_eq!(rt; shelf.file("other"), Some(b"kept".as_slice()));

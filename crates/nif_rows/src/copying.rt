@@ -1,5 +1,5 @@
 //! `copy plain F OUT` over a shelf in memory.
-use crate::answers::{answer, failing, whole};
+use crate::answers::{failing, run_line, whole};
 use crate::files::{no_block, one_block};
 use nif_tool::Status;
 use std::alloc::Global;
@@ -39,7 +39,7 @@ fn refusals(alloc: Global) -> Result<Vec<(Vec<u8>, &'static [u8])>, Fail> {
 fn copies(rt: HostRuntime) -> Result<(), Fail> {
     for file in [no_block(rt.alloc())?, one_block(rt.alloc())?] {
         for piece in [1, 7, 4096] {
-            let got = answer(&rt, "copy plain F OUT", file.as_slice(), whole(piece))?;
+            let got = run_line(&rt, "copy plain F OUT", file.as_slice(), whole(piece))?;
             assert_eq!(rt; got.status, Status::Done);
             assert!(rt; got.printed.is_empty());
             let Some(made) = got.made else {
@@ -55,7 +55,7 @@ fn copies(rt: HostRuntime) -> Result<(), Fail> {
 fn refuses(rt: HostRuntime) -> Result<(), Fail> {
     for (file, line) in refusals(rt.alloc())? {
         for piece in [1, 7, 4096] {
-            let got = answer(&rt, "copy plain F OUT", file.as_slice(), whole(piece))?;
+            let got = run_line(&rt, "copy plain F OUT", file.as_slice(), whole(piece))?;
             assert_eq!(rt; got.status, Status::FileRefused);
             assert_eq!(rt; got.printed.as_slice(), line);
             assert!(rt; got.made.is_none());
@@ -79,7 +79,7 @@ fn reads_words(rt: HostRuntime) -> Result<(), Fail> {
         "schema plain more",
         "Schema plain",
     ] {
-        let got = answer(&rt, line, file.as_slice(), failing(7, 0))?;
+        let got = run_line(&rt, line, file.as_slice(), failing(7, 0))?;
         assert_eq!(rt; got.status, Status::Usage, "at {line}");
         assert_eq!(rt;
             got.printed.as_slice(),
@@ -101,7 +101,7 @@ fn answers_a_refused_call(rt: HostRuntime) -> Result<(), Fail> {
         (3, b"nif: open fault\n"),
         (4, b"nif: write fault\n"),
     ] {
-        let got = answer(
+        let got = run_line(
             &rt,
             "copy plain F OUT",
             file.as_slice(),
@@ -111,9 +111,9 @@ fn answers_a_refused_call(rt: HostRuntime) -> Result<(), Fail> {
         assert_eq!(rt; got.printed.as_slice(), line, "at call {call}");
         assert_eq!(rt; got.made.is_some(), call == 4, "at call {call}");
     }
-    let got = answer(&rt, "copy plain F OUT", file.as_slice(), failing(4096, 5))?;
+    let got = run_line(&rt, "copy plain F OUT", file.as_slice(), failing(4096, 5))?;
     assert_eq!(rt; got.status, Status::Done);
-    let got = answer(&rt, "copy plain missing OUT", file.as_slice(), whole(7))?;
+    let got = run_line(&rt, "copy plain missing OUT", file.as_slice(), whole(7))?;
     assert_eq!(rt; got.printed.as_slice(), b"nif: open fault\n".as_slice());
     assert!(rt; got.made.is_none());
     Ok(())
@@ -124,7 +124,7 @@ fn keeps_the_first_bytes(rt: HostRuntime) -> Result<(), Fail> {
     let file = one_block(rt.alloc())?;
     // an open, 11 reads of up to 7 bytes, one at the end, and a create come before the writes
     for call in 14u64..25 {
-        let got = answer(&rt, "copy plain F OUT", file.as_slice(), failing(7, call))?;
+        let got = run_line(&rt, "copy plain F OUT", file.as_slice(), failing(7, call))?;
         assert_eq!(rt;
             got.printed.as_slice(),
             b"nif: write fault\n".as_slice(),

@@ -1,5 +1,5 @@
 //! `schema S` over a shelf in memory.
-use crate::answers::{Setting, answer, failing, whole};
+use crate::answers::{Setting, failing, run_line, whole};
 use nif_builtin::builtin::PLAIN;
 use nif_tool::Status;
 use std::alloc::Global;
@@ -22,7 +22,7 @@ fn lists_built_in_schemas(rt: HostRuntime) -> Result<(), Fail> {
         ("schema scene", b"types 35 open 35 closed 0\n"),
     ] {
         // no call of the shelf is made
-        let got = answer(&rt, line, b"", failing(1, 0))?;
+        let got = run_line(&rt, line, b"", failing(1, 0))?;
         assert_eq!(rt; got.status, Status::Done);
         assert_eq!(rt; got.printed.as_slice(), text);
     }
@@ -42,7 +42,7 @@ closed PlainOdd C0 uses a closed type
 types 11 open 9 closed 2
 ";
     for piece in [1, 7, 4096] {
-        let got = answer(&rt, "schema F", odd.as_slice(), whole(piece))?;
+        let got = run_line(&rt, "schema F", odd.as_slice(), whole(piece))?;
         assert_eq!(rt; got.status, Status::Done);
         assert_eq!(rt; got.printed.as_slice(), want.as_slice());
         assert!(rt; got.made.is_none());
@@ -77,7 +77,7 @@ fn refuses_schemas(rt: HostRuntime) -> Result<(), Fail> {
         (b"<niftoolsxml/>", b"nif: schema S6: header rule H1\n"),
     ] {
         for piece in [1, 4096] {
-            let got = answer(&rt, "schema F", text, whole(piece))?;
+            let got = run_line(&rt, "schema F", text, whole(piece))?;
             assert_eq!(rt; got.status, Status::SchemaRefused);
             assert_eq!(rt; got.printed.as_slice(), line);
             assert!(rt; got.made.is_none());
@@ -90,13 +90,13 @@ fn refuses_schemas(rt: HostRuntime) -> Result<(), Fail> {
 fn refuses_long_schemas(rt: HostRuntime) -> Result<(), Fail> {
     let mut text = Vec::from_slice(rt.alloc(), b"<niftoolsxml/>")?;
     text.resize(1 << 22, b' ')?;
-    let got = answer(&rt, "schema F", text.as_slice(), whole(4096))?;
+    let got = run_line(&rt, "schema F", text.as_slice(), whole(4096))?;
     assert_eq!(rt;
         got.printed.as_slice(),
         b"nif: schema S6: header rule H1\n".as_slice()
     );
     text.push(b' ')?;
-    let got = answer(&rt, "schema F", text.as_slice(), whole(4096))?;
+    let got = run_line(&rt, "schema F", text.as_slice(), whole(4096))?;
     assert_eq!(rt;
         got.printed.as_slice(),
         b"nif: schema S7: too long\n".as_slice()
@@ -114,24 +114,44 @@ fn answers_a_refused_call(rt: HostRuntime) -> Result<(), Fail> {
         (1, b"nif: read fault\n"),
         (2, b"nif: read fault\n"),
     ] {
-        let got = answer(&rt, "schema F", text, failing(4096, call))?;
+        let got = run_line(&rt, "schema F", text, failing(4096, call))?;
         assert_eq!(rt; got.status, Status::OutsideFault, "at call {call}");
         assert_eq!(rt; got.printed.as_slice(), line, "at call {call}");
     }
-    for (line, file) in [
-        ("schema plain", text),
-        ("schema F", b"<other/>"),
-        ("schema", text),
-        ("schema missing", text),
+    Ok(())
+}
+
+#[test]
+fn prints_the_first_of_a_text(rt: HostRuntime) -> Result<(), Fail> {
+    for (line, file, text) in [
+        (
+            "schema scene",
+            PLAIN,
+            b"types 35 open 35 closed 0\n".as_slice(),
+        ),
+        ("schema F", b"<other/>", b"nif: schema S2: no root\n"),
+        (
+            "schema",
+            PLAIN,
+            b"nif: usage: schema S | copy plain F OUT\n",
+        ),
+        ("schema missing", PLAIN, b"nif: open fault\n"),
     ] {
-        let setting = Setting {
-            piece: 4096,
-            failing: None,
-            unprinted: Some(0),
-        };
-        let got = answer(&rt, line, file, setting)?;
-        assert_eq!(rt; got.status, Status::OutsideFault, "at {line}");
-        assert!(rt; got.printed.is_empty());
+        for write in 0u64..6 {
+            let printed = write as usize * 7;
+            let setting = Setting {
+                piece: 7,
+                failing: None,
+                unprinted: Some(write),
+            };
+            let got = run_line(&rt, line, file, setting)?;
+            if printed < text.len() {
+                assert_eq!(rt; got.status, Status::OutsideFault, "at {line}");
+                assert_eq!(rt; got.printed.as_slice(), &text[..printed], "at {line}");
+            } else {
+                assert_eq!(rt; got.printed.as_slice(), text, "at {line}");
+            }
+        }
     }
     Ok(())
 }
