@@ -1,12 +1,11 @@
 -- Open types and the reasons of the others.
-use Rattle.std.proofs.Common.{◌≡◌, ◌≢◌, ◌↔◌, ℕ, zero, suc, ◌+◌, ◌-◌, ◌<◌, Bool, true, false, List, [], ◌∷◌, ◌++◌, length, get_or, Option, Some, None, is_some, not, IsTrue, slice_get, inl, inr, refl, sym, ap, subst, ◌∙◌, arith}
+use Rattle.std.proofs.Common.{◌≡◌, ◌↔◌, ℕ, zero, suc, ◌+◌, ◌-◌, ◌<◌, Bool, true, false, List, [], ◌∷◌, ◌++◌, length, get_or, Option, Some, None, is_some, not, IsTrue, slice_get, inl, inr, refl, sym, ap, subst, ◌∙◌, arith}
 use Rattle.std.proofs.lemmas.Bool.{cases_lt}
 use Rattle.std.proofs.lemmas.Option.{slice_get_within, slice_get_past, slice_get-get_or}
 use Rattle.nif_schema.specs.Schema.{Schema}
 use Rattle.nif_schema.specs.Uses.{Reaches, Here}
-use Rattle.nif_schema.specs.Reasons.{own_reason, ReachesClosed, IsOpen, IsReason, Open, Own, Uses}
+use Rattle.nif_schema.specs.Reasons.{own_reason, IsOpen, IsReason, Open, Own, Uses}
 use Rattle.nif_schema.specs.declared.faults.Closed.{Closed}
-use Rattle.nif_schema.specs.declared.faults.Closed.TheVariants.{C0}
 use Rattle.nif_uses.specs.Marks.{IsMarked, ReachesMarked}
 use Rattle.nif_check.specs.Results.{with_uses}
 use Rattle.nif_schema.specs.Reasons.{AreReasons}

@@ -1,19 +1,18 @@
 -- The header and the footer.
-use Rattle.std.proofs.Common.{◌≡◌, ◌↔◌, ℕ, zero, suc, ◌+◌, ◌<◌, ◌≤◌, Bool, true, false, not, List, [], ◌∷◌, length, map, get_or, Option, Some, None, is_some, IsTrue, codes, slice_get, inl, inr, refl, sym, ap, subst, ◌∙◌, arith}
+use Rattle.std.proofs.Common.{◌≡◌, ◌↔◌, ℕ, zero, suc, ◌<◌, Bool, true, false, not, List, [], ◌∷◌, length, map, Option, Some, None, is_some, IsTrue, codes, slice_get, inl, inr, refl, sym, ap, subst, ◌∙◌, arith}
 use Rattle.std.specs.Option.{option_and_then, option_map_or}
 use Rattle.std.proofs.lemmas.Bool.{cases_lt}
-use Rattle.std.proofs.lemmas.Option.{slice_get_within, slice_get_past, get_or_from_slice_get, slice_get-get_or}
-use Rattle.nif_schema.specs.Declaration.{Name, Field, Declaration, declaration, field}
+use Rattle.std.proofs.lemmas.Option.{slice_get_within, slice_get_past}
+use Rattle.nif_schema.specs.Declaration.{Name, Declaration, declaration, field}
 use Rattle.nif_schema.specs.Schema.{Schema, find, fields_of}
 use Rattle.nif_schema.specs.Uses.{Reaches, what_at, is_struct, is_generic}
 use Rattle.nif_schema.specs.Reasons.{IsOpen, IsReason}
-use Rattle.nif_schema.specs.Roles.{refers, header_fields, IsRoot, HasRoots, RefersNowhere, Roles}
+use Rattle.nif_schema.specs.Roles.{refers, header_fields, IsRoot, RefersNowhere}
 use Rattle.nif_schema.specs.declared.decls.Decl.{Decl}
 use Rattle.nif_schema.specs.declared.decls.What.{What}
 use Rattle.nif_schema.specs.declared.decls.What.TheVariants.{Basic, Stored, Struct, Block}
 use Rattle.nif_schema.specs.declared.faults.Closed.{Closed}
 use Rattle.nif_uses.specs.Marks.{IsMarked, ReachesMarked}
-use Rattle.nif_check.specs.Results.{FieldRules}
 use Rattle.nif_schema.specs.Reasons.{AreReasons}
 use Rattle.nif_check.proofs.ReasonLemmas.{open_by_none, closed_by_some}
 

@@ -1,14 +1,14 @@
 -- The values of an open type.
-use Rattle.std.proofs.Common.{◌≡◌, ◌≢◌, ◌⊎◌, ℕ, zero, suc, ◌&&◌, ◌||◌, not, Bool, true, false, if◌then◌else◌, List, [], ◌∷◌, ◌++◌, length, map, Option, Some, None, IsTrue, Contains, slice_get, bytes_eq, inl, inr, refl, sym, ap, subst, ◌∙◌, append_assoc, arith}
+use Rattle.std.proofs.Common.{◌≡◌, ◌≢◌, ◌⊎◌, ℕ, zero, suc, ◌&&◌, ◌||◌, not, Bool, true, false, if◌then◌else◌, List, [], ◌∷◌, ◌++◌, length, map, Option, Some, None, Contains, slice_get, bytes_eq, inl, inr, refl, sym, ap, subst, ◌∙◌, append_assoc, arith}
 use Rattle.std.proofs.lemmas.List.{append-nil}
 use Rattle.std.specs.List.{list_any, list_all, filter, flat_map}
 use Rattle.std.specs.Option.{option_and_then}
-use Rattle.std.proofs.lemmas.List.Elements.{Contains-append_cases, Contains-append_left, Contains-append_right}
+use Rattle.std.proofs.lemmas.List.Elements.{Contains-append_left, Contains-append_right}
 use Rattle.nif_schema.specs.Declaration.{Name, Formula, Read, Bad, Field, Declaration}
-use Rattle.nif_schema.specs.Expression.{Tree, Number, Arg, Path, Not, Two}
+use Rattle.nif_schema.specs.Expression.{Number, Arg, Path, Not, Two}
 use Rattle.nif_schema.specs.Schema.{Schema}
-use Rattle.nif_schema.specs.Uses.{Reaches, Here, is_struct}
-use Rattle.nif_schema.specs.Paths.{paths_of, Meaning, OfField, OfBits, ends_path, goes_on, inside, is_empty, is_number, is_number_array, is_header_path, fields_named, rest_reason, path_reason}
+use Rattle.nif_schema.specs.Uses.{Here, is_struct}
+use Rattle.nif_schema.specs.Paths.{paths_of, Meaning, OfField, ends_path, goes_on, inside, is_empty, is_number, is_number_array, is_header_path, fields_named, rest_reason, path_reason}
 use Rattle.nif_schema.specs.Reasons.{own_reason, IsOpen, first_reason, reason_where, kind_reason, template_reason, is_bad_bound, is_no_block, is_bad_exact, lacks_parent, has_no_root, ancestor_lacks, is_unread, has_bad_member, formula_reason, bare_width_reason, width_reason, width_where, field_reason, fields_reason, line_above}
 use Rattle.nif_schema.specs.declared.faults.Closed.{Closed}
 use Rattle.nif_schema.specs.declared.faults.Closed.TheVariants.{C0, C2, C3, C4, C5, C6, C9, C10, C11, C12, C13}

@@ -1,10 +1,10 @@
 -- What a checked schema keeps, and what a refusal says.
-use Rattle.std.specs.Prelude.{ℕ, ◌≡◌, ⊤, true, false, Bool, codes, List, length, Some, None, IsTrue, slice_get, if◌then◌else◌}
+use Rattle.std.specs.Prelude.{ℕ, ◌≡◌, ⊤, Bool, codes, List, Some, None, IsTrue, if◌then◌else◌}
 use Rattle.std.specs.declared.option.Option.{Option}
 use Rattle.nif_schema.specs.Declaration.{Field}
 use Rattle.nif_schema.specs.Schema.{Schema, find}
 use Rattle.nif_schema.specs.Reasons.{AreReasons}
-use Rattle.nif_schema.specs.Roles.{HasRoots, Roles, RoleFault, has_line, has_version, has_count, has_user_versions, has_lists, has_sized_strings, has_independent_fields}
+use Rattle.nif_schema.specs.Roles.{Roles, RoleFault, has_line, has_version, has_count, has_user_versions, has_lists, has_sized_strings, has_independent_fields}
 use Rattle.nif_schema.specs.declared.faults.Closed.{Closed}
 use Rattle.nif_schema.specs.declared.faults.Closed.TheVariants.{C0}
 use Rattle.nif_schema.specs.declared.faults.SchemaFault.{SchemaFault}

@@ -1,5 +1,5 @@
 -- What an open type is good for: its expressions are read, and each path in them has a value.
-use Rattle.std.specs.Prelude.{◌≡◌, ◌≢◌, ◌⊎◌, ⊤, Bool, true, false, bytes_eq, List, [], ◌∷◌, ◌++◌, Some, None, IsTrue, Contains, slice_get, ℕ}
+use Rattle.std.specs.Prelude.{◌≡◌, ◌≢◌, ◌⊎◌, ⊤, Bool, true, false, bytes_eq, List, [], ◌∷◌, Some, None, IsTrue, Contains}
 use Rattle.std.specs.declared.option.Option.{Option}
 use Rattle.std.specs.List.{list_any}
 use Rattle.nif_schema.specs.Declaration.{Name, Formula, Read, Bad, Field}

@@ -1,5 +1,5 @@
 -- The lines of types, one after another, and how many types are open and closed.
-use Rattle.std.proofs.Common.{◌≡◌, ◌≢◌, ℕ, zero, suc, ◌+◌, ◌-◌, ◌<◌, ◌≤◌, List, [], ◌∷◌, ◌++◌, length, take, drop, refl, sym, ap, ◌∙◌, arith, append_assoc, append-nil, Option, subst, get_or, add-one}
+use Rattle.std.proofs.Common.{◌≡◌, ℕ, zero, suc, ◌+◌, ◌<◌, ◌≤◌, List, [], ◌∷◌, ◌++◌, length, take, drop, refl, sym, ap, ◌∙◌, arith, append_assoc, append-nil, Option, subst, add-one}
 use Rattle.std.specs.Prelude.{slice_get, Some, None, count_by, is_some, is_none, unwrap_or, Bool, true, false}
 use Rattle.nif_stream.proofs.PutterLaws.{puts_more, fails_more}
 use Rattle.std.proofs.Math.Seq.{take-length}
@@ -9,7 +9,7 @@ use Rattle.nif_stream.specs.declared.putters.Putter.{Putter}
 use Rattle.nif_stream.specs.Putting.{Puts, Fails, IsSound}
 use Rattle.nif_schema.specs.Declaration.{Declaration}
 use Rattle.nif_schema.specs.Schema.{Schema}
-use Rattle.nif_schema.specs.Reasons.{IsReason, Open, Own, Uses, ReachesClosed, IsOpen, own_reason, AreReasons}
+use Rattle.nif_schema.specs.Reasons.{IsReason, Open, Own, Uses, IsOpen, own_reason, AreReasons}
 use Rattle.nif_schema.specs.Uses.{Here}
 use Rattle.nif_schema.specs.declared.faults.Closed.{Closed}
 use Rattle.nif_print.specs.Listing.{type_line, type_lines, totals, listing}

@@ -1,7 +1,7 @@
 -- What is printed of a schema: a line for each closed type, and the totals.
 use Rattle.std.specs.Prelude.{ℕ, ◌≡◌, ◌+◌, List, [], ◌∷◌, ◌++◌, codes, decimal, None, Some, count_by, is_some, is_none}
 use Rattle.std.specs.declared.option.Option.{Option}
-use Rattle.nif_schema.specs.Declaration.{Name, Declaration}
+use Rattle.nif_schema.specs.Declaration.{Name}
 use Rattle.nif_schema.specs.Schema.{Schema}
 use Rattle.nif_schema.specs.Reasons.{AreReasons}
 use Rattle.nif_schema.specs.declared.faults.Closed.{Closed}

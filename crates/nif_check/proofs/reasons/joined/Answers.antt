@@ -1,7 +1,6 @@
-use Rattle.std.proofs.Common.{◌≡◌, ℕ, ◌<◌, ◌+◌, ◌∷◌, ◌++◌, [], Bool, Option, Some, None, false, length, get_or, slice_get, refl, sym, ap, subst, ◌∙◌, arith}
+use Rattle.std.proofs.Common.{◌≡◌, ◌+◌, ◌∷◌, ◌++◌, [], Some, false, length, get_or, slice_get, sym, ap, ◌∙◌, arith}
 use Rattle.std.proofs.lemmas.List.{length-append}
 use Rattle.std.proofs.lemmas.Option.{get_or_from_slice_get, slice_get_within}
-use Rattle.nif_schema.specs.declared.faults.Closed.{Closed}
 use Rattle.nif_check.specs.Results.{with_uses}
 use Rattle.nif_check.proofs.ReasonLemmas.{grown}
 use Rattle.nif_check.proofs.reasons.joined.Goals as goal

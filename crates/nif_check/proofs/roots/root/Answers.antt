@@ -1,6 +1,5 @@
-use Rattle.std.proofs.Common.{◌≡◌, ◌<◌, true, false, Option, Some, None, sym, ◌∙◌, ap, subst, length, get_or, slice_get}
+use Rattle.std.proofs.Common.{◌≡◌, ◌<◌, true, false, None, sym, ◌∙◌, subst, length, get_or}
 use Rattle.std.proofs.lemmas.Option.{get_or_from_slice_get, slice_get-get_or}
-use Rattle.nif_schema.specs.Schema.{find}
 use Rattle.nif_schema.specs.Uses.{is_generic}
 use Rattle.nif_check.proofs.RootLemmas.{is-root, no-struct, no-single, no-open}
 use Rattle.nif_check.proofs.roots.root.Goals as goal

@@ -1,11 +1,9 @@
-use Rattle.std.proofs.Common.{ap, sym, ◌∙◌, subst, List, ◌++◌, refl, Some, None, arith, ◌≡◌, ◌<◌, ◌+◌, length}
+use Rattle.std.proofs.Common.{ap, sym, ◌∙◌, subst, refl, Some, arith, ◌≡◌, ◌<◌, ◌+◌, length}
 use Rattle.std.specs.Prelude.{slice_get, ℕ, ◌≤◌}
 use Rattle.std.proofs.lemmas.Result.{on_ok_weaker, on_err_weaker}
 use Rattle.nif_schema.specs.Declaration.{declaration}
-use Rattle.nif_schema.specs.Reasons.{IsReason}
 use Rattle.nif_stream.specs.Putting.{Puts, Fails}
-use Rattle.nif_stream.proofs.PutterLaws.{puts_more, fails_more}
-use Rattle.nif_print.specs.Listing.{type_line, type_lines, totals, listing}
+use Rattle.nif_print.specs.Listing.{type_line, listing}
 use Rattle.nif_print.proofs.Lines.{Listed, listed_open, listed_closed, listed_failed, listed_all, listed_part}
 use Rattle.nif_print.proofs.listings.schema_list.Goals.{then-is_some, else-is_some}
 use Rattle.nif_print.proofs.listings.schema_list.Goals as goal
