@@ -1,17 +1,16 @@
 -- What the changes of the vector leave.
-use Rattle.std.proofs.Common.{ℕ, zero, suc, ◌+◌, ◌-◌, ◌*◌, ◌<◌, ◌≤◌, ◌≡◌, ◌≢◌, ◌^◌, List, [], ◌∷◌, ◌++◌, length, take, drop, min, Option, None, Some, Bool, true, false, if◌then◌else◌, nat_eq, sym, ◌∙◌, ap, refl, arith, inl, inr, subst, append_assoc, length-append, get_or, lit<}
-use Rattle.std.specs.Option.{option_or, IsSomeAnd, IfSome}
-use Rattle.std.specs.Prelude.{IsSome, slice_set, slice_get}
-use Rattle.std.proofs.lemmas.List.{take-append-le, drop-append-le, append-nil, length-set, length-drop, get_or-append-add, get_or_append_left, set-append_left, set-append_right, drop-set-add}
-use Rattle.std.proofs.lemmas.Option.{slice_get-get_or}
-use Rattle.std.proofs.Math.Seq.{take-append_seam, drop-append_seam, set-append_seam, get_or-append_seam}
+use Rattle.std.proofs.Common.{ℕ, zero, suc, ◌+◌, ◌-◌, ◌<◌, ◌≤◌, ◌≡◌, ◌≢◌, ◌^◌, List, [], ◌∷◌, ◌++◌, length, take, drop, min, Option, None, Some, true, if◌then◌else◌, sym, ◌∙◌, ap, refl, arith, inl, inr, subst, append_assoc, length-append, lit<}
+use Rattle.std.specs.Option.{option_or, IsSomeAnd}
+use Rattle.std.specs.Prelude.{IsSome, slice_set}
+use Rattle.std.proofs.lemmas.List.{append-nil, length-set, length-drop, set-append_right, drop-set-add}
+use Rattle.std.proofs.Math.Seq.{take-append_seam, drop-append_seam, set-append_seam}
 use Rattle.std.proofs.lemmas.Bool.Decides.{eqb_tells}
 use Rattle.slab.specs.Slab.{Slab, get, slab_len, Updates}
-use Rattle.nif_region.specs.Contents.{Contents, find, without, put, AreApart, cells_of, cells_built, ended, patched, IsBounded}
-use Rattle.nif_region.specs.Layout.{Segment, Live, Dead, head, own, layout, live_runs, place_of, segments, runs_in, built_in, contents, IsLaid, IsKept}
+use Rattle.nif_region.specs.Contents.{find, AreApart, cells_of, cells_built, ended, patched, IsBounded}
+use Rattle.nif_region.specs.Layout.{Segment, Live, Dead, head, layout, live_runs, place_of, runs_in, built_in, contents, IsLaid, IsKept}
 use Rattle.nif_region.specs.declared.cells.Cell.{Cell}
-use Rattle.nif_region.proofs.Runs.{find-append, find-without_same, find-without_other, find-put_same, find-put_other, without-append, put-append, without-none, put-none, apart-rest}
-use Rattle.nif_region.proofs.Layouts.{layout-append, live_runs-append, place_of-append, runs_in-layout, runs_in-laid, live_cells-within, cells_of-append, place-none, place-among, IsStanding, standing}
+use Rattle.nif_region.proofs.Runs.{find-append}
+use Rattle.nif_region.proofs.Layouts.{layout-append, live_runs-append, place_of-append, runs_in-layout, runs_in-laid, live_cells-within, cells_of-append, place-none, place-among}
 
 -- the run that is being built
 

@@ -1,15 +1,13 @@
 -- Runs as they stand in the vector.
-use Rattle.std.proofs.Common.{ℕ, zero, suc, ◌+◌, ◌-◌, ◌<◌, ◌≤◌, ◌≡◌, ◌≢◌, List, [], ◌∷◌, ◌++◌, length, take, drop, min, Option, None, Some, Bool, true, false, if◌then◌else◌, nat_eq, sym, ◌∙◌, ap, refl, arith, inl, inr, subst, append_assoc, length-append}
-use Rattle.std.specs.Option.{option_or, IsSomeAnd}
-use Rattle.std.specs.Prelude.{IsSome}
-use Rattle.std.proofs.lemmas.List.{take-append-le, drop-append-le, append-nil}
+use Rattle.std.proofs.Common.{ℕ, zero, suc, ◌+◌, ◌-◌, ◌≤◌, ◌≡◌, List, [], ◌∷◌, ◌++◌, length, take, None, Some, Bool, true, false, if◌then◌else◌, nat_eq, sym, ◌∙◌, ap, refl, arith, inl, inr, subst, append_assoc, length-append}
+use Rattle.std.specs.Option.{option_or}
 use Rattle.std.proofs.Math.Seq.{take-append_seam, drop-append_seam}
 use Rattle.std.proofs.lemmas.Bool.Decides.{eqb_tells}
-use Rattle.slab.specs.Slab.{Slab, get, slab_len}
-use Rattle.nif_region.specs.Contents.{find, without, put, AreApart, cells_of}
-use Rattle.nif_region.specs.Layout.{Segment, Live, Dead, head, own, layout, live_runs, place_of, segments, runs_in, built_in, IsLaid}
+use Rattle.slab.specs.Slab.{Slab, get}
+use Rattle.nif_region.specs.Contents.{find, AreApart, cells_of}
+use Rattle.nif_region.specs.Layout.{Segment, Live, Dead, head, own, layout, live_runs, place_of, segments, runs_in, IsLaid}
 use Rattle.nif_region.specs.declared.cells.Cell.{Cell}
-use Rattle.nif_region.proofs.Runs.{find-append, without-append, put-append, without-none, put-none, apart-rest}
+use Rattle.nif_region.proofs.Runs.{apart-rest}
 
 pub layout-append : (a b : List Segment) → layout (a ++ b) ≡ layout a ++ layout b
 layout-append [] b = refl

@@ -1,13 +1,8 @@
 -- Lists of runs, and the vector that keeps them.
-use Rattle.std.proofs.Common.{ℕ, zero, suc, ◌+◌, ◌-◌, ◌<◌, ◌≤◌, ◌≡◌, ◌≢◌, List, [], ◌∷◌, ◌++◌, length, take, drop, min, Option, None, Some, Bool, true, false, if◌then◌else◌, nat_eq, sym, ◌∙◌, ap, refl, arith, inl, inr, subst, append_assoc, length-append, get_or, set}
-use Rattle.std.specs.Option.{option_or, IsSomeAnd}
-use Rattle.std.specs.Prelude.{slice_set, IsSome}
-use Rattle.std.proofs.Math.Seq.{take-append_seam, drop-append_seam}
+use Rattle.std.proofs.Common.{ℕ, ◌≡◌, ◌≢◌, List, [], ◌∷◌, ◌++◌, None, Some, true, false, if◌then◌else◌, nat_eq, sym, ◌∙◌, ap, refl, inl, inr, subst}
+use Rattle.std.specs.Option.{option_or}
 use Rattle.std.proofs.lemmas.Bool.Decides.{eqb_tells}
-use Rattle.slab.specs.Slab.{Slab, get, slab_len}
-use Rattle.nif_region.specs.Contents.{find, without, put, AreApart, cells_of}
-use Rattle.nif_region.specs.Layout.{Segment, Live, Dead, head, own, layout, live_runs, place_of, segments, runs_in, built_in, IsLaid}
-use Rattle.nif_region.specs.declared.cells.Cell.{Cell}
+use Rattle.nif_region.specs.Contents.{find, without, put, AreApart}
 
 module _ {A : Type 0} where
   pub find-append : (a b : List (ℕ × A)) (key : ℕ) → find (a ++ b) key ≡ option_or (find a key) (find b key)

@@ -1,16 +1,16 @@
 -- The slide, run by run.
-use Rattle.std.proofs.Common.{ℕ, zero, suc, ◌+◌, ◌-◌, ◌*◌, ◌<◌, ◌≤◌, ◌≡◌, ◌≢◌, ◌^◌, List, [], ◌∷◌, ◌++◌, length, take, drop, min, Option, None, Some, Bool, true, false, if◌then◌else◌, nat_eq, sym, ◌∙◌, ap, refl, arith, inl, inr, subst, append_assoc, length-append, get_or}
-use Rattle.std.specs.Option.{option_or, is_some}
+use Rattle.std.proofs.Common.{ℕ, suc, ◌+◌, ◌-◌, ◌<◌, ◌≤◌, ◌≡◌, ◌≢◌, List, [], ◌∷◌, ◌++◌, length, take, drop, None, Some, sym, ◌∙◌, ap, refl, arith, inl, inr, subst, append_assoc, length-append, get_or}
+use Rattle.std.specs.Option.{option_or}
 use Rattle.std.specs.List.{copy_within}
-use Rattle.std.proofs.lemmas.List.{append-nil, length-take, length-drop, drop-append-le}
+use Rattle.std.proofs.lemmas.List.{append-nil, length-drop, drop-append-le}
 use Rattle.std.proofs.Math.Seq.{take-append_seam, drop-append_seam, drop-append-add, get_or-append_seam}
 use Rattle.std.proofs.lemmas.Bool.Decides.{eqb_tells}
-use Rattle.slab.specs.Slab.{Slab, get, slab_len, ContainsKey}
+use Rattle.slab.specs.Slab.{Slab, get, slab_len}
 use Rattle.nif_region.specs.Contents.{find, AreApart, cells_of}
 use Rattle.nif_region.specs.Layout.{Segment, Live, Dead, head, own, layout, live_runs, place_of, runs_in, built_in, IsLaid, Slides}
 use Rattle.nif_region.specs.declared.cells.Cell.{Cell}
-use Rattle.nif_region.proofs.Runs.{find-append, apart-rest}
-use Rattle.nif_region.proofs.Layouts.{layout-append, live_runs-append, place_of-append, runs_in-layout, runs_in-laid, cells_of-append, place-none, place-among}
+use Rattle.nif_region.proofs.Runs.{apart-rest}
+use Rattle.nif_region.proofs.Layouts.{layout-append, live_runs-append, place_of-append, runs_in-laid, cells_of-append, place-none, place-among}
 use Rattle.nif_region.proofs.Changes.{option_or-none, find-one_other}
 use Rattle.nif_region.proofs.Standing.{built-last}
 

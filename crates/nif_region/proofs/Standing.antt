@@ -1,13 +1,13 @@
 -- A live run in the vector: its cells, a write to one of them, and its giving back.
-use Rattle.std.proofs.Common.{ℕ, zero, suc, ◌+◌, ◌-◌, ◌*◌, ◌<◌, ◌≤◌, ◌≡◌, ◌≢◌, ◌^◌, List, [], ◌∷◌, ◌++◌, length, take, drop, min, Option, None, Some, Bool, true, false, if◌then◌else◌, nat_eq, sym, ◌∙◌, ap, refl, arith, inl, inr, subst, append_assoc, length-append, get_or}
-use Rattle.std.specs.Option.{option_or, IsSomeAnd, IfSome, is_some}
-use Rattle.std.specs.Prelude.{IsSome, slice_set, slice_get}
+use Rattle.std.proofs.Common.{ℕ, zero, suc, ◌+◌, ◌-◌, ◌<◌, ◌≤◌, ◌≡◌, ◌≢◌, ◌^◌, List, [], ◌∷◌, ◌++◌, length, min, Option, None, Some, true, false, if◌then◌else◌, nat_eq, sym, ◌∙◌, ap, refl, arith, inl, inr, subst, append_assoc, length-append, get_or}
+use Rattle.std.specs.Option.{option_or, IsSomeAnd, is_some}
+use Rattle.std.specs.Prelude.{IsSome, slice_set}
 use Rattle.std.proofs.lemmas.List.{length-set, get_or-append-add, get_or_append_left, set-append_left, set-append_right}
 use Rattle.std.proofs.Math.Seq.{set-append_seam, get_or-append_seam}
 use Rattle.std.proofs.lemmas.Bool.Decides.{eqb_tells}
 use Rattle.slab.specs.Slab.{Slab, get, slab_len, Updates, ContainsKey}
-use Rattle.nif_region.specs.Contents.{Contents, find, without, put, AreApart, cells_of, cells_built, ended, patched, IsBounded}
-use Rattle.nif_region.specs.Layout.{Segment, Live, Dead, head, own, layout, live_runs, place_of, segments, runs_in, built_in, contents, IsLaid, IsKept, Slides}
+use Rattle.nif_region.specs.Contents.{find, without, put, AreApart, cells_of, cells_built}
+use Rattle.nif_region.specs.Layout.{Segment, Live, Dead, head, own, layout, live_runs, place_of, runs_in, built_in, IsLaid, IsKept, Slides}
 use Rattle.nif_region.specs.declared.cells.Cell.{Cell}
 use Rattle.nif_region.proofs.Runs.{find-append, find-without_same, find-without_other, without-append, put-append, without-none, put-none}
 use Rattle.nif_region.proofs.Layouts.{layout-append, live_runs-append, place_of-append, runs_in-layout, runs_in-laid, cells_of-append, place-none, IsStanding, standing}

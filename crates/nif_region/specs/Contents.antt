@@ -1,5 +1,5 @@
 -- What a region holds: runs of cells under keys, and the run that is being built.
-use Rattle.std.specs.Prelude.{ℕ, ◌+◌, ◌*◌, ◌≤◌, ◌≡◌, List, [], ◌∷◌, ◌++◌, length, Option, None, Some, Bool, if◌then◌else◌, nat_eq, slice_set, IsSome}
+use Rattle.std.specs.Prelude.{ℕ, ◌+◌, ◌*◌, ◌≤◌, ◌≡◌, List, [], ◌∷◌, ◌++◌, length, Option, None, Some, if◌then◌else◌, nat_eq, slice_set, IsSome}
 use Rattle.nif_region.specs.declared.cells.Cell.{Cell}
 
 -- The live runs with their keys, in the order in which they were ended; the cells of the run that is being built,

@@ -1,7 +1,7 @@
 -- How a region keeps its runs in one vector: each is a cell at its head and its own cells behind it, in the order
 -- in which they were ended, live or dead; the run that is being built is last. The head has the kind 1 where the run
 -- is live, and then its key, else 0; and the number of the run's own cells.
-use Rattle.std.specs.Prelude.{ℕ, zero, suc, ◌+◌, ◌-◌, ◌*◌, ◌<◌, ◌≤◌, ◌≡◌, ◌^◌, List, [], ◌∷◌, ◌++◌, length, take, drop, min, Option, None, Some, Bool, if◌then◌else◌, nat_eq}
+use Rattle.std.specs.Prelude.{ℕ, zero, suc, ◌+◌, ◌-◌, ◌*◌, ◌<◌, ◌≤◌, ◌≡◌, ◌^◌, List, [], ◌∷◌, ◌++◌, length, take, drop, min, Option, None, Some, if◌then◌else◌, nat_eq}
 use Rattle.slab.specs.Slab.{Slab, get, slab_len}
 use Rattle.nif_region.specs.Contents.{Contents, AreApart, cells_of}
 use Rattle.nif_region.specs.declared.cells.Cell.{Cell}

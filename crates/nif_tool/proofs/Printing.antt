@@ -1,8 +1,8 @@
 -- What is printed of an answer.
-use Rattle.std.proofs.Common.{◌≡◌, ℕ, List, Option, Some, None, take, refl, sym, subst, arith, Ok, Err}
-use Rattle.std.specs.Option.{IfSome, option_map}
+use Rattle.std.proofs.Common.{◌≡◌, ℕ, List, Option, Some, None, refl, sym, subst, arith, Ok, Err}
+use Rattle.std.specs.Option.{IfSome}
 use Rattle.nif_base.specs.Shelf.{Files}
-use Rattle.nif_tool.specs.Command.{Command, SchemaName, CopyPlain}
+use Rattle.nif_tool.specs.Command.{SchemaName, CopyPlain}
 use Rattle.nif_tool.specs.Command as command
 use Rattle.nif_schema.specs.Schema.{Schema}
 use Rattle.nif_print.specs.Listing.{IsListing}

@@ -1,5 +1,5 @@
 -- The line that is printed of a refusal.
-use Rattle.std.specs.Prelude.{ℕ, List, [], ◌++◌, codes}
+use Rattle.std.specs.Prelude.{ℕ, List, ◌++◌, codes}
 use Rattle.nif_value.specs.declared.first.FirstFault.{FirstFault}
 use Rattle.nif_value.specs.declared.first.FirstFault.TheVariants as first
 use Rattle.nif_print.specs.Refusals.{schema_fault_text}

@@ -1,5 +1,5 @@
 -- What a command comes to: its answer, what that says of the files, where they are told, and the text that it prints.
-use Rattle.std.specs.Prelude.{◌≡◌, ℕ, ◌≤◌, List, [], ◌++◌, None, Some, take, IfSome, IsSomeAnd, ⊤, codes}
+use Rattle.std.specs.Prelude.{◌≡◌, ℕ, ◌≤◌, List, [], None, Some, take, IfSome, IsSomeAnd, ⊤}
 use Rattle.std.specs.declared.option.Option.{Option}
 use Rattle.std.specs.Option.{option_map}
 use Rattle.std.specs.FinMap.{get, insert}
@@ -12,7 +12,7 @@ use Rattle.nif_schema.specs.declared.faults.SchemaFault.TheVariants as schema_fa
 use Rattle.nif_value.specs.declared.first.FirstFile.{FirstFile}
 use Rattle.nif_file.specs.First.{IsFirst, HasFault}
 use Rattle.nif_print.specs.Listing.{IsListing}
-use Rattle.nif_tool.specs.Command.{Command, SchemaName, Plain, Scene, Named, CopyPlain}
+use Rattle.nif_tool.specs.Command.{Command, Named, CopyPlain}
 use Rattle.nif_tool.specs.Command as command
 use Rattle.nif_tool.specs.Schemas.{Passes, Refuses, told_bytes}
 use Rattle.nif_tool.specs.Lines.{line_of}

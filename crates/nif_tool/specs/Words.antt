@@ -1,5 +1,4 @@
 -- What words with their names stand for.
-use Rattle.std.specs.Prelude.{ℕ, List}
 use Rattle.nif_tool.specs.Command.{Command, Schema, CopyPlain, SchemaName, Plain, Scene, Named}
 use Rattle.nif_tool.specs.declared.words.SchemaName as kept_name
 use Rattle.nif_tool.specs.declared.words.Words as kept

@@ -1,5 +1,5 @@
 //! The one call that runs a command.
-ghost use Rattle.std.specs.Prelude.{◌≡◌, ◌≢◌, ◌⊎◌, ℕ, ◌≤◌, ◌↔◌, List, None, Some, Ok, Err, IfSome, OnOk, OnErr};
+ghost use Rattle.std.specs.Prelude.{◌≡◌, ◌≢◌, ℕ, List, None, Some, Ok, Err, IfSome, OnOk, OnErr};
 ghost use Rattle.nif_stream.specs.Putting.{HasTaken};
 ghost use Rattle.nif_base.specs.Outside.{HasCause, Rose};
 ghost use Rattle.nif_print.specs.Listing.{IsListing};
@@ -7,7 +7,7 @@ ghost use Rattle.nif_tool.specs.Report.{status_of};
 ghost use Rattle.nif_tool.specs.Command.{command_of, CopyPlain};
 ghost use Rattle.nif_tool.specs.Command as spec_command;
 ghost use Rattle.nif_tool.specs.Words.{schema_name};
-ghost use Rattle.nif_tool.specs.Meaning.{files_of, Answers, CanAnswer, HasCauses, Prints, RefusedFor, ReadFrom};
+ghost use Rattle.nif_tool.specs.Meaning.{files_of, Answers, HasCauses, Prints, RefusedFor, ReadFrom};
 
 use crate::copying::copy;
 use crate::lines::refuse;

@@ -1,5 +1,5 @@
 //! Copying a plain file: it is read whole before the copy is created.
-ghost use Rattle.std.specs.Prelude.{◌≡◌, ◌≢◌, ◌⊎◌, ℕ, ◌≤◌, List, Some, Ok, Err, IfSome, IfOk, IfErr};
+ghost use Rattle.std.specs.Prelude.{◌≡◌, ◌≢◌, ◌⊎◌, ℕ, List, Some, Ok, Err, IfSome, IfOk, IfErr};
 ghost use Rattle.std.specs.Result.{result_err};
 ghost use Rattle.nif_file.specs.First.{text_of, IsFirst};
 ghost use Rattle.nif_tool.specs.Command.{CopyPlain};

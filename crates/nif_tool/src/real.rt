@@ -1,6 +1,6 @@
 //! The outside of the real program: the system's files, and a writer of std. They tell no content, and count each
 //! failure.
-ghost use Rattle.std.specs.Prelude.{◌≡◌, ℕ, ◌+◌, ◌<◌, ◌≤◌, List, [], ◌++◌, length, IfOk, Option, Some, None, take, refl};
+ghost use Rattle.std.specs.Prelude.{◌≡◌, ◌<◌, ◌≤◌, Option, Some, None, refl};
 ghost use Rattle.std.proofs.Common.{arith};
 ghost use Rattle.nif_base.specs.ShelfView.{untold, Stayed, stayed_same, stayed_joined, Grew, grew_same, grew_joined};
 

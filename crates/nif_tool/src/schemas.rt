@@ -1,8 +1,7 @@
 //! Getting a schema: its text is built in, or read from a file, and then read and checked.
-ghost use Rattle.std.specs.Prelude.{◌≡◌, ◌≢◌, ◌≤◌, ◌<◌, ◌^◌, ◌⊎◌, List, ℕ, None, Some, Ok, Err, IfSome, IfOk, IfErr, length};
+ghost use Rattle.std.specs.Prelude.{◌≡◌, ◌≢◌, ◌≤◌, ◌<◌, Some, Ok, Err, IfSome, IfOk, IfErr, length};
 ghost use Rattle.std.specs.Result.{result_err};
 ghost use Rattle.nif_schema.specs.declared.faults.SchemaFault.{SchemaFault};
-ghost use Rattle.nif_tool.specs.Command.{Command};
 ghost use Rattle.nif_tool.specs.Command as spec_command;
 ghost use Rattle.nif_tool.specs.Refusals.{refusal_of};
 ghost use Rattle.nif_tool.specs.Words.{schema_name};

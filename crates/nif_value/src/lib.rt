@@ -1,5 +1,5 @@
 //! Values: what is read from a file and written to one. It stands on `nif_base`. So far it holds the value of a
-//! plain file alone.
+//! plain file, and in `specs/` what a store of trees of nodes is to hold, step by step.
 #![tactic(auto)]
 
 pub mod first;

@@ -1,9 +1,6 @@
-use Rattle.std.proofs.Common.{ℕ, ◌≡◌, ◌≢◌, ◌+◌, ◌-◌, ◌<◌, ◌≤◌, ◌∷◌, List, length, take, Some, ap, sym, ◌∙◌, refl, arith}
+use Rattle.std.proofs.Common.{◌+◌, ◌-◌, ◌≤◌, ◌∷◌, take, ap, ◌∙◌, refl, arith}
 use Rattle.std.specs.Option.{is_some}
-use Rattle.std.specs.List.{copy_within}
-use Rattle.nif_region.specs.Layout.{Live, Dead, Segment}
-use Rattle.nif_region.specs.declared.cells.Cell.{Cell}
-use Rattle.nif_region.proofs.Slid.{Sliding, IsNext, next, sliding-init, length-sliding, live-segment, dead-segment, has_its_place, moved, passed, slid}
+use Rattle.nif_region.proofs.Slid.{next, sliding-init, length-sliding, live-segment, dead-segment, has_its_place, moved, passed, slid}
 use Rattle.nif_region.proofs.slides.slide.Goals as goal
 
 pub loop-from-init : goal.loop-from-init

@@ -1,4 +1,4 @@
-use Rattle.std.proofs.Common.{ℕ, List, Option, None, subst, sym, ◌∙◌}
+use Rattle.std.proofs.Common.{ℕ, List, Option, subst, sym}
 use Rattle.nif_tool.specs.Command.{command_of}
 use Rattle.nif_tool.specs.Meaning.{files_of, Answers, HasCauses, Prints}
 use Rattle.nif_tool.specs.declared.report.Fault.{Fault}

@@ -1,4 +1,4 @@
-use Rattle.std.proofs.Common.{◌≡◌, ◌-◌, ◌++◌, [], length, take, ◌∙◌, ap, sym, refl, arith, lit<}
+use Rattle.std.proofs.Common.{◌≡◌, ◌-◌, ◌++◌, [], take, ◌∙◌, ap, refl, arith, lit<}
 use Rattle.nif_region.specs.Layout.{layout, IsKept}
 use Rattle.nif_region.proofs.Changes.{dropped-is, kept-last, runs-last, bounded}
 use Rattle.nif_region.proofs.regions.Region.abandon.Goals as goal

@@ -1,9 +1,7 @@
-use Rattle.std.proofs.Common.{◌≡◌, ◌+◌, ◌-◌, ◌<◌, ◌≤◌, ◌++◌, length, ◌∙◌, ap, sym, refl, arith, subst, Some}
+use Rattle.std.proofs.Common.{◌≡◌, ◌-◌, ◌<◌, length, ◌∙◌, ap, arith, subst, Some}
 use Rattle.std.specs.Option.{is_some}
 use Rattle.slab.specs.Slab.{Updates}
-use Rattle.nif_region.specs.Contents.{find, ended}
-use Rattle.nif_region.specs.Layout.{IsKept, runs_in}
-use Rattle.nif_region.proofs.Changes.{built-some, live-within, closed, Closes, closes, bounded}
+use Rattle.nif_region.proofs.Changes.{built-some, live-within, Closes, closes, bounded}
 use Rattle.nif_region.proofs.regions.Region.close_run.Goals as goal
 
 length_is : (c : goal.After-self-3-1) → c.len.result ≡ length c.self.inside.cells.items

@@ -1,11 +1,7 @@
-use Rattle.std.proofs.Common.{◌≡◌, ◌+◌, ◌<◌, List, length, Some, ap, sym, ◌∙◌, arith, get_or, set}
+use Rattle.std.proofs.Common.{◌≡◌, ◌+◌, ◌<◌, Some, ap, sym, ◌∙◌, arith, get_or}
 use Rattle.std.proofs.lemmas.Option.{slice_get-get_or}
-use Rattle.nif_region.specs.Contents.{find, put}
-use Rattle.nif_region.specs.Layout.{runs_in, IsKept}
-use Rattle.nif_region.proofs.Runs.{find-put_same, find-put_other}
 use Rattle.nif_region.proofs.Layouts.{standing}
-use Rattle.nif_region.proofs.Changes.{bounded}
-use Rattle.nif_region.proofs.Standing.{the_run, has_place, IsHeld, held, held-within, cell-read, kept-set, runs-set, same_built-set}
+use Rattle.nif_region.proofs.Standing.{the_run, has_place, IsHeld, held, held-within, cell-read}
 use Rattle.nif_region.proofs.regions.Region.get.Goals as goal
 
 pub index-head-requires : goal.index-head-requires

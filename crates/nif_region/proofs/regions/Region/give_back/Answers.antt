@@ -1,7 +1,6 @@
-use Rattle.std.proofs.Common.{ℕ, ◌≡◌, ◌+◌, ◌-◌, ◌<◌, ◌≤◌, List, length, refl, ap, sym, ◌∙◌, arith, set}
+use Rattle.std.proofs.Common.{◌+◌, ◌-◌, refl, ap, ◌∙◌, arith, set}
 use Rattle.nif_region.specs.Contents.{cells_of, cells_built}
-use Rattle.nif_region.specs.Layout.{runs_in, built_in, IsKept}
-use Rattle.nif_region.specs.declared.cells.Cell.{Cell}
+use Rattle.nif_region.specs.Layout.{IsKept}
 use Rattle.nif_region.proofs.Changes.{bounded}
 use Rattle.nif_region.proofs.Standing.{live_has_place, first-within, IsGiven, given-back, kept-slid}
 use Rattle.nif_region.proofs.regions.Region.give_back.Goals as goal

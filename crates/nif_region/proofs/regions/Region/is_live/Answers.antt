@@ -1,4 +1,3 @@
-use Rattle.std.proofs.Common.{sym}
 use Rattle.nif_region.proofs.Standing.{place_is_live, live_has_place}
 use Rattle.nif_region.proofs.regions.Region.is_live.Goals as goal
 

@@ -1,10 +1,10 @@
-use Rattle.std.proofs.Common.{ℕ, ◌≡◌, ◌+◌, ◌<◌, List, length, Some, ap, sym, ◌∙◌, arith, get_or}
+use Rattle.std.proofs.Common.{ℕ, ◌≡◌, ◌<◌, List, length, Some, ap, ◌∙◌, arith, get_or}
 use Rattle.std.specs.Prelude.{IsSome}
 use Rattle.slab.specs.Slab.{Slab, get}
 use Rattle.nif_region.specs.Contents.{find}
 use Rattle.nif_region.specs.Layout.{IsLaid, Live, runs_in, layout, head}
 use Rattle.nif_region.specs.declared.cells.Cell.{Cell}
-use Rattle.nif_region.proofs.Layouts.{IsStanding, standing}
+use Rattle.nif_region.proofs.Layouts.{standing}
 use Rattle.nif_region.proofs.Standing.{some_run, live_has_place, the_place, run-within, head-read}
 use Rattle.nif_region.proofs.regions.Region.len.Goals as goal
 

@@ -1,4 +1,4 @@
-use Rattle.std.proofs.Common.{◌≡◌, ◌+◌, ◌++◌, ◌∷◌, [], length, ◌∙◌, ap, sym, refl, arith, lit<}
+use Rattle.std.proofs.Common.{◌≡◌, ◌++◌, ◌∷◌, [], length, ◌∙◌, ap, arith, lit<}
 use Rattle.slab.specs.Slab.{get}
 use Rattle.nif_region.specs.Layout.{layout, IsKept}
 use Rattle.nif_region.proofs.Changes.{built-none, pushed-is, pushed-count, kept-last, runs-last, bounded}

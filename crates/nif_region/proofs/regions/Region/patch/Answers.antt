@@ -1,7 +1,7 @@
-use Rattle.std.proofs.Common.{◌≡◌, ◌+◌, ◌-◌, ◌<◌, ◌≤◌, ◌++◌, length, ◌∙◌, ap, sym, refl, arith, set, length-set}
+use Rattle.std.proofs.Common.{◌≡◌, ◌+◌, ◌-◌, ◌<◌, length, ◌∙◌, ap, refl, arith, set, length-set}
 use Rattle.nif_region.specs.Contents.{patched}
-use Rattle.nif_region.specs.Layout.{layout, IsKept, built_in}
-use Rattle.nif_region.proofs.Changes.{built-place, patched-is, patched-built, kept-last, runs-last, bounded, live-within}
+use Rattle.nif_region.specs.Layout.{IsKept}
+use Rattle.nif_region.proofs.Changes.{built-place, patched-is, patched-built, kept-last, live-within}
 use Rattle.nif_region.proofs.regions.Region.patch.Goals as goal
 
 length_is : (c : goal.After-self-1) → c.len.result ≡ length c.self.inside.cells.items

@@ -1,6 +1,5 @@
-use Rattle.std.proofs.Common.{◌≡◌, ◌+◌, ◌-◌, ◌^◌, ◌<◌, ◌≤◌, ◌++◌, ◌∷◌, [], length, ◌∙◌, ap, sym, refl, arith, subst}
-use Rattle.std.specs.Option.{IsSomeAnd}
-use Rattle.nif_region.specs.Layout.{layout, built_in, IsKept}
+use Rattle.std.proofs.Common.{◌≡◌, ◌+◌, ◌-◌, ◌^◌, ◌<◌, ◌≤◌, ◌++◌, ◌∷◌, [], ◌∙◌, ap, refl, arith}
+use Rattle.nif_region.specs.Layout.{layout, IsKept}
 use Rattle.nif_region.proofs.Changes.{built-within, pushed-is, pushed-count, kept-last, runs-last, bounded, live-within}
 use Rattle.nif_region.proofs.regions.Region.push.Goals as goal
 

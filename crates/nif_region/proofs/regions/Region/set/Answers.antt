@@ -1,11 +1,10 @@
-use Rattle.std.proofs.Common.{◌≡◌, ◌+◌, ◌<◌, List, length, Some, ap, sym, ◌∙◌, arith, get_or, set}
-use Rattle.std.proofs.lemmas.Option.{slice_get-get_or}
+use Rattle.std.proofs.Common.{◌≡◌, ◌+◌, ◌<◌, length, ap, ◌∙◌, arith, set}
 use Rattle.nif_region.specs.Contents.{find, put}
 use Rattle.nif_region.specs.Layout.{runs_in, built_in, layout, IsKept}
 use Rattle.nif_region.proofs.Runs.{find-put_same, find-put_other}
 use Rattle.nif_region.proofs.Layouts.{standing}
 use Rattle.nif_region.proofs.Changes.{bounded}
-use Rattle.nif_region.proofs.Standing.{the_run, has_place, IsHeld, held, held-within, cell-read, kept-set, runs-set, same_built-set}
+use Rattle.nif_region.proofs.Standing.{the_run, has_place, IsHeld, held, held-within, kept-set, runs-set, same_built-set}
 use Rattle.nif_region.proofs.regions.Region.set.Goals as goal
 
 pub index-first-requires : goal.index-first-requires

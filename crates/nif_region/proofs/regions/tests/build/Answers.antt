@@ -1,6 +1,5 @@
-use Rattle.std.proofs.Common.{ℕ, ◌≡◌, ◌+◌, ◌-◌, ◌<◌, ◌^◌, List, [], ◌∷◌, length, length-append, Option, None, Some, arith}
+use Rattle.std.proofs.Common.{ℕ, ◌≡◌, ◌-◌, ◌<◌, ◌^◌, List, length, Option, None, Some, arith}
 use Rattle.std.specs.Option.{IsSomeAnd}
-use Rattle.nif_region.specs.Contents.{pushed}
 use Rattle.nif_region.specs.declared.cells.Cell.{Cell}
 use Rattle.nif_region.proofs.regions.tests.build.Goals as goal
 
