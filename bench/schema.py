@@ -4,7 +4,7 @@
     bench/schema.py [PROGRAM]        PROGRAM: crates/nif/out/nif, as `rt run` in crates/nif builds it
 
 For each shape it makes texts of 0.5, 1, 2 and 4 MiB and prints the best of three runs, and how the time grew when the
-size doubled: about 2 is linear. Exit status 0 (listed) and 3 (refused) are both fine. It is no part of the tests.
+size doubled: about 2 is linear. Only paths through many types grow by 4. Exit status 0 (listed) and 3 (refused) are both fine. It is no part of the tests.
 """
 import os, resource, subprocess, sys, tempfile, time
 
@@ -60,6 +60,16 @@ def paths_through_one_name(size):
     return filled(size, lambda i: '<field name="F" type="T"%s/>' % (' cond="F\\N"' if i else ""), head, "</struct>")
 
 
+def paths_through_many_types(size):
+    """Each path leads through as many types as there are structs, and each pair of a path and a type is looked at: this
+    grows with the square. The text is about an eighth of the size, so that it ends soon."""
+    count = size // 1000
+    structs = "".join('<struct name="T%d"><field name="N" type="uint"/></struct>' % i for i in range(count))
+    fields = "".join('<field name="F" type="T%d"/>' % i for i in range(count))
+    paths = "".join('<field name="G" type="uint" cond="F\\N"/>' for i in range(count))
+    return "<niftoolsxml>" + PLAIN + structs + '<struct name="S">' + fields + paths + "</struct></niftoolsxml>"
+
+
 def long_paths(size):
     head = '<struct name="V"><field name="V" type="V"/></struct><struct name="S"><field name="V" type="V"/>'
     return filled(size, lambda i: '<field name="F" type="uint" cond="%s"/>' % "\\".join(["V"] * 1900), head, "</struct>")
@@ -106,7 +116,7 @@ def tokens(size):
 
 
 SHAPES = [chain, chain_backwards, loop_of_parents, chain_with_fields, conditions_on_the_first, one_name, paths_through_one_name,
-          long_paths, ring, uses_of_one_closed, children_of_one, attributes, references, deep, text_and_comments, unfinished, tokens]
+          paths_through_many_types, long_paths, ring, uses_of_one_closed, children_of_one, attributes, references, deep, text_and_comments, unfinished, tokens]
 
 
 def best(words, runs=3):
