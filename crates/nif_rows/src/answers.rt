@@ -1,6 +1,4 @@
 //! Running a line of words over a shelf in memory.
-ghost use Rattle.std.specs.Prelude.{ℕ, ◌<◌};
-
 use nif_base::{MemShelf, MemSink};
 use nif_tool::{Status, run};
 use std::alloc::Global;
@@ -39,9 +37,10 @@ pub fn run_line<R: Abort + AllocGlobal>(
     line: &str,
     file: &[u8],
     setting: Setting,
-) -> Result<Answer, Fail>
-    requires { 0 < setting.piece }
-{
+) -> Result<Answer, Fail> {
+    if setting.piece == 0 {
+        return Err(Fail::new("no piece"));
+    }
     let alloc = rt.alloc();
     let mut shelf = MemShelf::new(alloc, setting.piece);
     shelf.put("F", file)?;

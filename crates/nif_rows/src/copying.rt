@@ -1,5 +1,5 @@
 //! `copy plain F OUT` over a shelf in memory.
-use crate::answers::{failing, run_line, whole};
+use crate::answers::{Answer, failing, run_line, whole};
 use crate::files::{no_block, one_block};
 use nif_tool::Status;
 use std::alloc::Global;
@@ -35,6 +35,14 @@ fn refusals(alloc: Global) -> Result<Vec<(Vec<u8>, &'static [u8])>, Fail> {
     Ok(rows)
 }
 
+/// Whether OUT is there, and has so many of the first of these bytes.
+fn has_first(got: &Answer, bytes: &[u8], count: u64) -> bool {
+    match &got.made {
+        Some(made) => made.len() as u64 == count && bytes.starts_with(made.as_slice()),
+        None => false,
+    }
+}
+
 #[test]
 fn copies(rt: HostRuntime) -> Result<(), Fail> {
     for file in [no_block(rt.alloc())?, one_block(rt.alloc())?] {
@@ -42,10 +50,7 @@ fn copies(rt: HostRuntime) -> Result<(), Fail> {
             let got = run_line(&rt, "copy plain F OUT", file.as_slice(), whole(piece))?;
             assert_eq!(rt; got.status, Status::Done);
             assert!(rt; got.printed.is_empty());
-            let Some(made) = got.made else {
-                return Err(Fail::new("no OUT"));
-            };
-            assert_eq!(rt; made.as_slice(), file.as_slice());
+            assert!(rt; has_first(&got, file.as_slice(), file.len() as u64));
         }
     }
     Ok(())
@@ -130,11 +135,7 @@ fn keeps_the_first_bytes(rt: HostRuntime) -> Result<(), Fail> {
             b"nif: write fault\n".as_slice(),
             "at call {call}"
         );
-        let Some(made) = got.made else {
-            return Err(Fail::new("no OUT"));
-        };
-        assert!(rt; file.as_slice().starts_with(made.as_slice()));
-        assert_eq!(rt; made.len() as u64, 7 * (call - 14));
+        assert!(rt; has_first(&got, file.as_slice(), 7 * (call - 14)));
     }
     Ok(())
 }
