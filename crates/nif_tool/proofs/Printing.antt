@@ -22,7 +22,7 @@ prints_weaker (Some (fault.First x)) text f p = f _ text p
 prints_weaker (Some fault.OpenFault) text f p = f _ text p
 prints_weaker (Some fault.ReadFault) text f p = f _ text p
 prints_weaker (Some fault.WriteFault) text f p = f _ text p
-prints_weaker (Some fault.PrintFault) text f p = (p.0, p.1, f p.0 p.1 p.2, p.3)
+prints_weaker (Some fault.PrintFault) text f p = (p.0, p.1, p.2, f p.0 p.1 p.3, p.4)
 prints_weaker (Some fault.NoMemory) text f p = f _ text p
 
 -- a copy that was refused

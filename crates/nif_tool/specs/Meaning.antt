@@ -1,5 +1,5 @@
 -- What a command comes to: its answer, what that says of the files, where they are told, and the text that it prints.
-use Rattle.std.specs.Prelude.{◌≡◌, ℕ, ◌≤◌, List, [], None, Some, take, IfSome, IsSomeAnd, ⊤}
+use Rattle.std.specs.Prelude.{◌≡◌, ◌≢◌, ℕ, ◌≤◌, List, [], None, Some, take, IfSome, IsSomeAnd, ⊤}
 use Rattle.std.specs.declared.option.Option.{Option}
 use Rattle.std.specs.Option.{option_map}
 use Rattle.std.specs.FinMap.{get, insert}
@@ -90,9 +90,9 @@ pub record HasCauses (answer : Option Fault) (opens opens' reads reads' writes w
   pub reading : answer ≡ Some fault.ReadFault → Rose reads reads'
   pub writing : answer ≡ Some fault.WriteFault → Rose writes writes'
 
--- Where printing failed, the first of the text of an answer that would have been was printed; else the whole text.
+-- Where printing failed, the first of the text of another answer, that would have been, was printed; else the whole text.
 abbrev pub Prints : (Option Fault → List ℕ → Type 0) → Option Fault → List ℕ → Type 0
-Prints P (Some fault.PrintFault) text = (answer : Option Fault) × (whole : List ℕ) × P answer whole × ((n : ℕ) × (text ≡ take n whole))
+Prints P (Some fault.PrintFault) text = (answer : Option Fault) × (whole : List ℕ) × (answer ≢ Some fault.PrintFault) × P answer whole × ((n : ℕ) × (text ≡ take n whole))
 Prints P answer text = P answer text
 
 -- what was asked for when an open or create failed, at its turn: the schema, the file to be copied, or, where that has

@@ -6,4 +6,4 @@ pub returns-in-Err-clause-printed : goal.returns-in-Err-clause-printed
 unfolding HasTaken
 returns-in-Err-clause-printed g c =
     let part = c.in-Err.ensures.err in
-    (take part.2.0 part.0, part.2.1, (None, part.0, (refl, part.1), (part.2.0, refl)))
+    (take part.2.0 part.0, part.2.1, (None, part.0, (λ same. absurd (cc)), (refl, part.1), (part.2.0, refl)))

@@ -7,4 +7,4 @@ pub returns-in-Err-clause-printed : goal.returns-in-Err-clause-printed
 unfolding HasTaken
 returns-in-Err-clause-printed g c =
     let part = c.in-Err.ensures.err in
-    (take part.0 (line_of c.args.fault), part.1, (Some c.args.fault, line_of c.args.fault, (refl, refl), (part.0, refl)))
+    (take part.0 (line_of c.args.fault), part.1, (Some c.args.fault, line_of c.args.fault, (λ same. c.requires (cc)), (refl, refl), (part.0, refl)))
