@@ -1,3 +1,4 @@
 mod AlikeLemmas
+pub mod MarkLemmas
 pub mod ShapeLemmas
 pub mod TableLemmas

@@ -1,11 +1,12 @@
 -- Tables of names.
-use Rattle.std.proofs.Common.{◌≡◌, ℕ, suc, Bool, true, false, cond, ◌⊎◌, ◌||◌, ltb, List, [], ◌∷◌, ◌++◌, length, map, get_or, set, Option, Some, None, position, bytes_eq, refl, sym, ap, ◌∙◌, true≢false, inl, inr, arith}
+use Rattle.std.proofs.Common.{◌≡◌, ℕ, suc, Bool, true, false, cond, ◌⊎◌, ◌||◌, ltb, List, [], ◌∷◌, ◌++◌, length, map, get_or, set, Option, Some, None, position, bytes_eq, refl, sym, ap, subst, ◌∙◌, true≢false, inl, inr, arith}
 use Rattle.std.specs.List.{list_any, position_or_len}
 use Rattle.std.specs.Option.{option_map}
 use Rattle.std.proofs.lemmas.Grind.{common_steps}
 use Rattle.std.proofs.lemmas.Slice.Eq.{bytes_eq-Decides}
 use Rattle.nif_names.specs.declared.shapes.Shape.{Shape}
-use Rattle.nif_names.specs.Tables.{stack_of}
+use Rattle.nif_names.specs.Shapes.{Stack}
+use Rattle.nif_names.specs.Tables.{stack_of, no_stack}
 
 -- the first place of a list with one more element in front
 pub position-cons : {X : Type 0} (p : X → Bool) (x : X) (xs : List X) → position p (x ∷ xs) ≡ cond (p x) (Some 0) (option_map suc (position p xs))
@@ -39,7 +40,7 @@ position-cases {X} p x xs i e = by (p x) refl (position p xs) refl (sym (positio
 
 module _ {K : Type 0} (bytes : K → List ℕ) (name : List ℕ) where
   -- the stack at the place of a name
-  pub stack-at : (d : List Shape) (keys : List K) (stacks : List (List Shape)) (i : ℕ) → position (λ k. bytes_eq name (bytes k)) keys ≡ Some i
+  pub stack-at : (d : Stack) (keys : List K) (stacks : List Stack) (i : ℕ) → position (λ k. bytes_eq name (bytes k)) keys ≡ Some i
       → length keys ≡ length stacks → stack_of name (map bytes keys) stacks ≡ get_or stacks i d
   stack-at d [] stacks i e same = absurd (cc)
   stack-at d (k ∷ keys) [] i e same = absurd (omega arith)
@@ -53,7 +54,7 @@ module _ {K : Type 0} (bytes : K → List ℕ) (name : List ℕ) where
       ]
 
   -- another stack at the place of a name
-  pub stack-set : (other : List ℕ) (new : List Shape) (keys : List K) (stacks : List (List Shape)) (i : ℕ) → position (λ k. bytes_eq name (bytes k)) keys ≡ Some i
+  pub stack-set : (other : List ℕ) (new : Stack) (keys : List K) (stacks : List Stack) (i : ℕ) → position (λ k. bytes_eq name (bytes k)) keys ≡ Some i
       → length keys ≡ length stacks
       → stack_of other (map bytes keys) (set stacks i new) ≡ cond (bytes_eq other name) new (stack_of other (map bytes keys) stacks)
   stack-set other new [] stacks i e same = absurd (cc)
@@ -79,7 +80,7 @@ module _ {K : Type 0} (bytes : K → List ℕ) (name : List ℕ) where
           twice true = refl
           twice false = refl
 
-      later : (b : Bool) → bytes_eq other (bytes k) ≡ b → bytes_eq name (bytes k) ≡ false → {tail : List Shape}
+      later : (b : Bool) → bytes_eq other (bytes k) ≡ b → bytes_eq name (bytes k) ≡ false → {tail : Stack}
           → tail ≡ cond (bytes_eq other name) new (stack_of other (map bytes keys) stacks)
           → cond (bytes_eq other (bytes k)) s tail
           ≡ cond (bytes_eq other name) new (cond (bytes_eq other (bytes k)) s (stack_of other (map bytes keys) stacks))
@@ -91,7 +92,7 @@ module _ {K : Type 0} (bytes : K → List ℕ) (name : List ℕ) where
           ap (λ b. cond b s tail) h ∙ t ∙ sym (ap (λ b. cond (bytes_eq other name) new (cond b s (stack_of other (map bytes keys) stacks))) h)
 
   -- a stack of a new name
-  pub stack-push : (other : List ℕ) (new : List Shape) (names : List (List ℕ)) (stacks : List (List Shape)) → list_any (bytes_eq name) names ≡ false
+  pub stack-push : (other : List ℕ) (new : Stack) (names : List (List ℕ)) (stacks : List Stack) → list_any (bytes_eq name) names ≡ false
       → length names ≡ length stacks
       → stack_of other (names ++ name ∷ []) (stacks ++ new ∷ []) ≡ cond (bytes_eq other name) new (stack_of other names stacks)
   stack-push other new [] [] none same = refl
@@ -108,7 +109,7 @@ module _ {K : Type 0} (bytes : K → List ℕ) (name : List ℕ) where
       first true h = h
       first false h = refl
 
-      by : (b : Bool) → bytes_eq other n ≡ b → {tail : List Shape} → tail ≡ cond (bytes_eq other name) new (stack_of other names stacks)
+      by : (b : Bool) → bytes_eq other n ≡ b → {tail : Stack} → tail ≡ cond (bytes_eq other name) new (stack_of other names stacks)
           → cond (bytes_eq other n) s tail ≡ cond (bytes_eq other name) new (cond (bytes_eq other n) s (stack_of other names stacks))
       by true h {tail} t =
           let apart = differ name other n (first (bytes_eq name n) none) h in
@@ -117,43 +118,78 @@ module _ {K : Type 0} (bytes : K → List ℕ) (name : List ℕ) where
       by false h {tail} t = ap (λ b. cond b s tail) h ∙ t ∙ sym (ap (λ b. cond (bytes_eq other name) new (cond b s (stack_of other names stacks))) h)
 
   -- a name that isn't there has no shapes
-  pub stack-none : (names : List (List ℕ)) (stacks : List (List Shape)) → list_any (bytes_eq name) names ≡ false → stack_of name names stacks ≡ []
+  pub stack-none : (names : List (List ℕ)) (stacks : List Stack) → list_any (bytes_eq name) names ≡ false → stack_of name names stacks ≡ no_stack
   stack-none [] stacks none = refl
   stack-none (n ∷ names) [] none = refl
   stack-none (n ∷ names) (s ∷ stacks) none = by (bytes_eq name n) none (λ h. stack-none names stacks h)
     where
-      by : (b : Bool) → (b || list_any (bytes_eq name) names) ≡ false → (list_any (bytes_eq name) names ≡ false → stack_of name names stacks ≡ [])
-          → cond b s (stack_of name names stacks) ≡ []
+      by : (b : Bool) → (b || list_any (bytes_eq name) names) ≡ false → (list_any (bytes_eq name) names ≡ false → stack_of name names stacks ≡ no_stack)
+          → cond b s (stack_of name names stacks) ≡ no_stack
       by true h rest = absurd (true≢false h)
       by false h rest = rest h
 
   -- a changed stack
-  pub stack-change : (f : List Shape → List Shape) (d : List Shape) (other : List ℕ) (keys : List K) (stacks : List (List Shape)) (i : ℕ)
-      → position (λ k. bytes_eq name (bytes k)) keys ≡ Some i → length keys ≡ length stacks
-      → stack_of other (map bytes keys) (set stacks i (f (get_or stacks i d)))
-      ≡ cond (bytes_eq other name) (f (stack_of other (map bytes keys) stacks)) (stack_of other (map bytes keys) stacks)
-  stack-change f d other keys stacks i e same = stack-set other (f (get_or stacks i d)) keys stacks i e same ∙ by (bytes_eq other name) refl
-    where
-      by : (b : Bool) → bytes_eq other name ≡ b
-          → cond b (f (get_or stacks i d)) (stack_of other (map bytes keys) stacks) ≡ cond b (f (stack_of other (map bytes keys) stacks)) (stack_of other (map bytes keys) stacks)
-      by false h = refl
-      by true h =
-          let one : name ≡ other = sym ((bytes_eq-Decides other name).0 h) in
-          ap f (sym (stack-at d keys stacks i e same) ∙ ap (λ n. stack_of n (map bytes keys) stacks) one)
+  module _ (new d : Stack) (other : List ℕ) (keys : List K) (stacks : List Stack) (i : ℕ)
+      (at : position (λ k. bytes_eq name (bytes k)) keys ≡ Some i) (same : length keys ≡ length stacks) where
+    old : Stack
+    old = stack_of other (map bytes keys) stacks
+
+    given : bytes_eq other name ≡ true → get_or stacks i d ≡ old
+    unfolding old
+    given h =
+        let one : name ≡ other = sym ((bytes_eq-Decides other name).0 h) in
+        sym (stack-at d keys stacks i at same) ∙ ap (λ n. stack_of n (map bytes keys) stacks) one
+
+    pub shapes-change : (f : List Shape → List Shape) → new.shapes ≡ f (get_or stacks i d).shapes
+        → (stack_of other (map bytes keys) (set stacks i new)).shapes
+        ≡ cond (bytes_eq other name) (f (stack_of other (map bytes keys) stacks).shapes) (stack_of other (map bytes keys) stacks).shapes
+    unfolding old
+    shapes-change f is = ap (λ s. s.shapes) (stack-set other new keys stacks i at same) ∙ by (bytes_eq other name) refl
+      where
+        by : (b : Bool) → bytes_eq other name ≡ b → (cond b new old).shapes ≡ cond b (f old.shapes) old.shapes
+        by false h = refl
+        by true h = is ∙ ap (λ s. f s.shapes) (given h)
+
+    -- what holds of the new stack holds of the old one, or something else does, where this is the name
+    pub change-cases : (P Q : Stack → Type 0) → (P new → P (get_or stacks i d) ⊎ Q (get_or stacks i d))
+        → P (stack_of other (map bytes keys) (set stacks i new))
+        → P (stack_of other (map bytes keys) stacks) ⊎ ((other ≡ name) × Q (stack_of other (map bytes keys) stacks))
+    unfolding old
+    change-cases P Q back is = by (bytes_eq other name) refl (subst P (stack-set other new keys stacks i at same) is)
+      where
+        by : (b : Bool) → bytes_eq other name ≡ b → P (cond b new old) → P old ⊎ ((other ≡ name) × Q old)
+        by false h p = inl p
+        by true h p = elim (back p) [
+          | inl q ↦ inl (subst P (given h) q)
+          | inr q ↦ inr ((bytes_eq-Decides other name).0 h, subst Q (given h) q)
+        ]
+
+    pub change-back : (P : Stack → Type 0) → (P new → P (get_or stacks i d))
+        → P (stack_of other (map bytes keys) (set stacks i new)) → P (stack_of other (map bytes keys) stacks)
+    change-back P back is = elim (change-cases P (λ s. ⊥) (λ p. inl (back p)) is) [ inl p ↦ p | inr q ↦ absurd q.1 ]
 
   -- a first shape
-  pub stack-first : (shape : Shape) (other : List ℕ) (names : List (List ℕ)) (stacks : List (List Shape)) → list_any (bytes_eq name) names ≡ false
-      → length names ≡ length stacks
-      → stack_of other (names ++ name ∷ []) (stacks ++ (shape ∷ []) ∷ [])
-      ≡ cond (bytes_eq other name) (stack_of other names stacks ++ shape ∷ []) (stack_of other names stacks)
-  stack-first shape other names stacks none same = stack-push other (shape ∷ []) names stacks none same ∙ by (bytes_eq other name) refl
-    where
-      by : (b : Bool) → bytes_eq other name ≡ b
-          → cond b (shape ∷ []) (stack_of other names stacks) ≡ cond b (stack_of other names stacks ++ shape ∷ []) (stack_of other names stacks)
-      by false h = refl
-      by true h =
-          let one : name ≡ other = sym ((bytes_eq-Decides other name).0 h) in
-          ap (λ l. l ++ shape ∷ []) (sym (stack-none names stacks none) ∙ ap (λ n. stack_of n names stacks) one)
+  module _ (new : Stack) (other : List ℕ) (names : List (List ℕ)) (stacks : List Stack) (none : list_any (bytes_eq name) names ≡ false) (same : length names ≡ length stacks) where
+    lacking : bytes_eq other name ≡ true → stack_of other names stacks ≡ no_stack
+    lacking h =
+        let one : other ≡ name = (bytes_eq-Decides other name).0 h in
+        ap (λ n. stack_of n names stacks) one ∙ stack-none names stacks none
+
+    pub shapes-first : (shape : Shape) → new.shapes ≡ shape ∷ [] → (stack_of other (names ++ name ∷ []) (stacks ++ new ∷ [])).shapes
+        ≡ cond (bytes_eq other name) ((stack_of other names stacks).shapes ++ shape ∷ []) (stack_of other names stacks).shapes
+    shapes-first shape is = ap (λ s. s.shapes) (stack-push other new names stacks none same) ∙ by (bytes_eq other name) refl
+      where
+        by : (b : Bool) → bytes_eq other name ≡ b
+            → (cond b new (stack_of other names stacks)).shapes ≡ cond b ((stack_of other names stacks).shapes ++ shape ∷ []) (stack_of other names stacks).shapes
+        by false h = refl
+        by true h = is ∙ sym (ap (λ s. s.shapes ++ shape ∷ []) (lacking h))
+
+    pub first-back : (P : Stack → Type 0) → (P new → P no_stack) → P (stack_of other (names ++ name ∷ []) (stacks ++ new ∷ [])) → P (stack_of other names stacks)
+    first-back P back is = by (bytes_eq other name) refl (subst P (stack-push other new names stacks none same) is)
+      where
+        by : (b : Bool) → bytes_eq other name ≡ b → P (cond b new (stack_of other names stacks)) → P (stack_of other names stacks)
+        by false h p = p
+        by true h p = subst P (sym (lacking h)) (back p)
 
 pub list_any-map : {X Y : Type 0} (p : Y → Bool) (f : X → Y) (xs : List X) → list_any p (map f xs) ≡ list_any (λ x. p (f x)) xs
 list_any-map p f [] = refl

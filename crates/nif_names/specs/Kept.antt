@@ -1,8 +1,10 @@
--- What a stack of shapes keeps.
-use Rattle.std.specs.Prelude.{ℕ, ◌≡◌, not, if◌then◌else◌, List, [], ◌∷◌, ◌++◌, map, flat_map, count_by, Some, is_none, Contains}
+-- What a stack of shapes and its marks keep.
+use Rattle.std.specs.Prelude.{ℕ, ◌≡◌, ◌≤◌, not, if◌then◌else◌, List, [], ◌∷◌, ◌++◌, map, flat_map, count_by, Some, is_none, slice_get, length, Contains}
 use Rattle.std.specs.Option.{option_to_list}
 use Rattle.nif_names.specs.declared.shapes.Shape.{Shape}
 use Rattle.nif_names.specs.declared.shapes.Entry.{Entry}
+use Rattle.nif_names.specs.declared.marked.Mark as kept
+use Rattle.nif_names.specs.Marks.{Mark}
 
 abbrev pub shapes_of : List Entry → List Shape
 shapes_of entries = map (λ e. e.shape) entries
@@ -23,3 +25,12 @@ pub record IsStack (entries : List Entry) (inners : List ℕ) (not_numbers not_r
   pub inner : not_inner ≡ count_by (λ s. is_none s.inner) (shapes_of entries)
   pub new : inners ≡ flat_map new_inner entries
   pub covered : IsCovered [] entries
+
+abbrev pub plain_mark : kept.Mark → Mark
+plain_mark m = record { key = m.key.items; count = m.count }
+
+-- What was put there later was put there behind no fewer marks.
+pub record AreOrdered (since : List ℕ) (types marks : ℕ) : Type 0 where
+  pub count : length since ≡ types
+  pub within : (i a : ℕ) → slice_get since i ≡ Some a → a ≤ marks
+  pub ordered : (i j a b : ℕ) → i ≤ j → slice_get since i ≡ Some a → slice_get since j ≡ Some b → a ≤ b

@@ -1,3 +1,4 @@
+pub mod Marks
 pub mod Shapes
 pub mod Kept
 pub mod Tables

@@ -4,6 +4,12 @@ use Rattle.std.specs.declared.option.Option.{Option}
 use Rattle.std.specs.Option.{option_to_list}
 use Rattle.std.specs.List.{list_all}
 use Rattle.nif_names.specs.declared.shapes.Shape.{Shape}
+use Rattle.nif_names.specs.Marks.{Marked}
+
+-- the shapes of a stack, and their inner types, each once, with marks
+pub record Stack : Type 0 where
+  pub shapes : List Shape
+  pub kinds : Marked
 
 -- the inner types of shapes
 abbrev pub inners : List Shape → List ℕ

@@ -1,9 +1,11 @@
 //! Stacks of shapes.
-ghost use Rattle.std.specs.Prelude.{◌≡◌, ◌≢◌, ℕ, ◌-◌, [], ◌∷◌, ◌++◌, length, take, map, OnOk, OnErr, Contains, ◌↔◌, is_some, IsTrue, Some};
+ghost use Rattle.std.specs.Prelude.{◌≡◌, ◌≢◌, ℕ, ◌-◌, ◌⊎◌, List, [], ◌∷◌, ◌++◌, length, take, map, OnOk, OnErr, Contains, ◌↔◌, is_some, IsTrue, Some};
 ghost use Rattle.std.specs.List.{list_all};
 ghost use Rattle.nif_names.specs.Shapes.{inners, shape_of, Alike};
 ghost use Rattle.nif_names.specs.Kept.{new_inner};
+ghost use Rattle.nif_names.specs.Marks.{IsMarked, none_marked};
 
+use crate::marked::MarkedTypes;
 use indexmap::IndexMap;
 use nif_base::NoMemory;
 use std::alloc::Global;
@@ -47,82 +49,98 @@ pub struct Shapes {
     /// How many of them have no inner type.
     not_inner: usize,
     /// The inner types of the entries that are new.
-    inners: Vec<u32>,
+    inners: MarkedTypes,
     /// Where an inner type was put in `inners`; it may have been taken off since.
     places: IndexMap<u32, usize>,
 }
 
 impl Model for Shapes {
-    ghost use Rattle.std.specs.Prelude.{List, map};
-    ghost use Rattle.nif_names.specs.declared.shapes.Shape.{Shape};
+    ghost use Rattle.nif_names.specs.Shapes.{Stack};
 
-    ghost Value = { List Shape };
+    ghost Value = { Stack };
 
     ghost use Rattle.nif_names.specs.Kept.{IsStack, shapes_of};
 
-    ghost view = { λ a. shapes_of a.entries.items };
+    ghost view = { λ a. record { shapes = shapes_of a.entries.items; kinds = a.inners } };
 
-    ghost invariant = { λ a. IsStack a.entries.items a.inners.items a.not_numbers a.not_rows a.not_inner };
+    ghost invariant = { λ a. IsStack a.entries.items a.inners.types a.not_numbers a.not_rows a.not_inner };
 }
 
 impl Shapes {
     /// A stack of no shapes. It takes no memory.
     pub fn new(alloc: Global) -> Shapes
-        ensures { result ≡ [] }
+        ensures { result ≡ record { shapes = []; kinds = none_marked } }
     {
         Shapes {
             entries: Vec::new(alloc),
             not_numbers: 0,
             not_rows: 0,
             not_inner: 0,
-            inners: Vec::new(alloc),
+            inners: MarkedTypes::new(alloc),
             places: IndexMap::new(alloc),
         }
     }
 
     /// Whether there are none.
     pub fn is_empty(&self) -> bool
-        ensures { IsTrue result ↔ (self.now ≡ []) }
+        ensures { IsTrue result ↔ (self.now.shapes ≡ []) }
     {
         self.entries.len() == 0
     }
 
     /// Whether all are numbers.
     pub fn all_numbers(&self) -> bool
-        ensures { result ≡ list_all (λ s. s.number) self.now }
+        ensures { result ≡ list_all (λ s. s.number) self.now.shapes }
     {
         self.not_numbers == 0
     }
 
     /// Whether all are rows of numbers.
     pub fn all_rows(&self) -> bool
-        ensures { result ≡ list_all (λ s. s.row) self.now }
+        ensures { result ≡ list_all (λ s. s.row) self.now.shapes }
     {
         self.not_rows == 0
     }
 
     /// Whether all have an inner type.
     pub fn all_inner(&self) -> bool
-        ensures { result ≡ list_all (λ s. is_some s.inner) self.now }
+        ensures { result ≡ list_all (λ s. is_some s.inner) self.now.shapes }
     {
         self.not_inner == 0
     }
 
     /// Their inner types, each once.
     pub fn inners(&self) -> &[u32]
-        ensures { (inner : ℕ) → Contains result.now inner ↔ Contains (inners self.now) inner }
+        ensures { (inner : ℕ) → Contains result.now inner ↔ Contains (inners self.now.shapes) inner }
     {
-        self.inners.as_slice()
+        self.inners.types()
+    }
+
+    /// Inner types among which are all that aren't marked under a key. It takes time as there are types that were
+    /// put there or taken off since the key was last marked.
+    pub fn unmarked(&self, key: &[u16]) -> &[u32]
+        ensures some { (inner : ℕ) → Contains result.now inner → Contains (inners self.now.shapes) inner }
+        ensures others { (inner : ℕ) → Contains (inners self.now.shapes) inner → Contains result.now inner ⊎ IsMarked self.now.kinds key.now inner }
+    {
+        self.inners.unmarked(key)
+    }
+
+    /// Marks all inner types under a key.
+    pub fn mark(&mut self, key: &[u16]) -> Result<(), NoMemory>
+        ensures shapes { OnOk result (self.new.shapes ≡ self.old.shapes) }
+        ensures marks { OnOk result ((other : List ℕ) (inner : ℕ) → IsMarked self.new.kinds other inner → IsMarked self.old.kinds other inner ⊎ ((other ≡ key.now) × Contains (inners self.old.shapes) inner)) }
+    {
+        self.inners.mark(key)
     }
 
     /// Whether `inner` is known to be among the inner types.
     fn knows(&self, inner: u32) -> bool
-        ensures { IsTrue result → Contains (inners self.now) inner }
+        ensures { IsTrue result → Contains (inners self.now.shapes) inner }
     {
         let Some(place) = self.places.get(&inner) else {
             return false;
         };
-        match self.inners.get(*place) {
+        match self.inners.types().get(*place) {
             Some(found) => *found == inner,
             None => false,
         }
@@ -130,7 +148,8 @@ impl Shapes {
 
     /// Puts a shape on top; after want of memory the stack is as before.
     pub fn push(&mut self, shape: Shape) -> Result<(), NoMemory>
-        ensures ok { OnOk result (self.new ≡ self.old ++ shape ∷ []) }
+        ensures ok { OnOk result (self.new.shapes ≡ self.old.shapes ++ shape ∷ []) }
+        ensures marks { OnOk result ((key : List ℕ) (inner : ℕ) → IsMarked self.new.kinds key inner → IsMarked self.old.kinds key inner) }
         ensures err { OnErr result (self.new ≡ self.old) }
     {
         match shape.inner {
@@ -147,8 +166,9 @@ impl Shapes {
 
     /// Puts a shape on top whose inner type, if it has one, is among the others.
     fn push_known(&mut self, shape: Shape) -> Result<(), NoMemory>
-        requires { (inner : ℕ) → shape.inner ≡ Some inner → Contains (inners self.old) inner }
-        ensures ok { OnOk result (self.new ≡ self.old ++ shape ∷ []) }
+        requires { (inner : ℕ) → shape.inner ≡ Some inner → Contains (inners self.old.shapes) inner }
+        ensures ok { OnOk result (self.new.shapes ≡ self.old.shapes ++ shape ∷ []) }
+        ensures marks { OnOk result ((key : List ℕ) (inner : ℕ) → IsMarked self.new.kinds key inner → IsMarked self.old.kinds key inner) }
         ensures err { OnErr result (self.new ≡ self.old) }
     {
         let Ok(()) = self.entries.push(Entry {
@@ -167,13 +187,11 @@ impl Shapes {
     /// Puts a shape of this inner type on top, and keeps the type.
     fn push_new(&mut self, shape: Shape, inner: u32) -> Result<(), NoMemory>
         requires { shape.inner ≡ Some inner }
-        ensures ok { OnOk result (self.new ≡ self.old ++ shape ∷ []) }
+        ensures ok { OnOk result (self.new.shapes ≡ self.old.shapes ++ shape ∷ []) }
+        ensures marks { OnOk result ((key : List ℕ) (inner : ℕ) → IsMarked self.new.kinds key inner → IsMarked self.old.kinds key inner) }
         ensures err { OnErr result (self.new ≡ self.old) }
     {
-        let Ok(_) = self.places.insert(inner, self.inners.len()) else {
-            return Err(NoMemory);
-        };
-        let Ok(()) = self.inners.push(inner) else {
+        let Ok(_) = self.places.insert(inner, self.inners.types().len()) else {
             return Err(NoMemory);
         };
         let Ok(()) = self.entries.push(Entry {
@@ -181,7 +199,10 @@ impl Shapes {
             is_new: true,
         })
         else {
-            self.inners.pop();
+            return Err(NoMemory);
+        };
+        let Ok(()) = self.inners.push(inner) else {
+            self.entries.pop();
             return Err(NoMemory);
         };
         self.not_numbers += usize::from(!shape.number);
@@ -191,12 +212,13 @@ impl Shapes {
 
     /// Takes the top off, if there is one.
     pub fn pop(&mut self)
-        ensures { self.new ≡ take (length self.old - 1) self.old }
+        ensures shapes { self.new.shapes ≡ take (length self.old.shapes - 1) self.old.shapes }
+        ensures marks { (key : List ℕ) (inner : ℕ) → IsMarked self.new.kinds key inner → IsMarked self.old.kinds key inner }
     {
         let Some(entry) = self.entries.pop() else {
             return;
         };
-        self.inners.truncate(self.inners.len() - entry.kept());
+        self.inners.cut(self.inners.types().len() - entry.kept());
         self.not_numbers -= usize::from(!entry.shape.number);
         self.not_rows -= usize::from(!entry.shape.row);
         self.not_inner -= usize::from(entry.shape.inner.is_none());
@@ -204,8 +226,8 @@ impl Shapes {
 
     /// Puts shapes on top that are like those of another stack, as few as its different inner types and one more.
     pub fn add_all(&mut self, of: &Shapes) -> Result<(), NoMemory>
-        requires { of.now ≢ [] }
-        ensures { OnOk result (Alike self.new (self.old ++ of.now)) }
+        requires { of.now.shapes ≢ [] }
+        ensures { OnOk result (Alike self.new.shapes (self.old.shapes ++ of.now.shapes)) }
     {
         let number = of.all_numbers();
         let row = of.all_rows();
@@ -224,7 +246,7 @@ impl Shapes {
 
     /// Puts a shape on top for each of these inner types.
     fn add_inners(&mut self, number: bool, row: bool, inners: &[u32]) -> Result<(), NoMemory>
-        ensures { OnOk result (self.new ≡ self.old ++ map (λ inner. shape_of number row (Some inner)) inners.now) }
+        ensures { OnOk result (self.new.shapes ≡ self.old.shapes ++ map (λ inner. shape_of number row (Some inner)) inners.now) }
     {
         for inner in inners {
             let Ok(()) = self.push(Shape {

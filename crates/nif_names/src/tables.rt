@@ -1,8 +1,10 @@
 //! Tables of names.
-ghost use Rattle.std.specs.Prelude.{◌≡◌, ◌≢◌, ℕ, List, ◌-◌, ◌<◌, [], ◌∷◌, ◌++◌, length, take, bytes_eq, if◌then◌else◌, false, OnOk, IfSome};
+ghost use Rattle.std.specs.Prelude.{◌≡◌, ◌≢◌, ℕ, List, ◌-◌, ◌⊎◌, [], ◌∷◌, ◌++◌, length, take, bytes_eq, if◌then◌else◌, false, OnOk, IfSome, Contains};
 ghost use Rattle.std.specs.Option.{option_map_or};
 ghost use Rattle.std.specs.List.{list_any};
-ghost use Rattle.nif_names.specs.Tables.{held};
+ghost use Rattle.nif_names.specs.Marks.{IsMarked};
+ghost use Rattle.nif_names.specs.Shapes.{inners};
+ghost use Rattle.nif_names.specs.Tables.{held, kinds, no_stack};
 
 use crate::shapes::{Shape, Shapes};
 use indexmap::IndexSet;
@@ -32,7 +34,8 @@ impl Model for Names {
 impl Names {
     /// A table of no names. It takes no memory.
     pub fn new(alloc: Global) -> Names
-        ensures { (name : List ℕ) → held result name ≡ [] }
+        ensures shapes { (name : List ℕ) → held result name ≡ [] }
+        ensures marks { (name key : List ℕ) (inner : ℕ) → IsMarked (kinds result name) key inner → ⊥ }
     {
         Names {
             alloc,
@@ -43,8 +46,9 @@ impl Names {
 
     /// The shapes under a name, if there are any.
     pub fn look(&self, name: &[u8]) -> Option<&Shapes>
-        ensures value { option_map_or (λ shapes. shapes.now) result [] ≡ held self.now name.now }
-        ensures some { IfSome result (λ shapes. shapes.now ≢ []) }
+        ensures value { option_map_or (λ shapes. shapes.now.shapes) result [] ≡ held self.now name.now }
+        ensures some { IfSome result (λ shapes. shapes.now.shapes ≢ []) }
+        ensures marks { IfSome result (λ shapes. shapes.now.kinds ≡ kinds self.now name.now) }
     {
         let place = self.names.get_index_of(name)?;
         let shapes = &self.stacks[place];
@@ -57,7 +61,8 @@ impl Names {
 
     /// Puts a shape on the stack of a name.
     pub fn push(&mut self, name: &[u8], shape: Shape) -> Result<(), NoMemory>
-        ensures { OnOk result ((other : List ℕ) → held self.new other ≡ (if bytes_eq other name.now then held self.old other ++ shape ∷ [] else held self.old other)) }
+        ensures shapes { OnOk result ((other : List ℕ) → held self.new other ≡ (if bytes_eq other name.now then held self.old other ++ shape ∷ [] else held self.old other)) }
+        ensures marks { OnOk result ((other key : List ℕ) (inner : ℕ) → IsMarked (kinds self.new other) key inner → IsMarked (kinds self.old other) key inner) }
     {
         let place = match self.names.get_index_of(name) {
             Some(place) => place,
@@ -70,7 +75,8 @@ impl Names {
     /// Puts a shape on the stack of a name that isn't there yet.
     fn push_first(&mut self, name: &[u8], shape: Shape) -> Result<(), NoMemory>
         requires { list_any (bytes_eq name.now) self.old.names ≡ false }
-        ensures { OnOk result ((other : List ℕ) → held self.new other ≡ (if bytes_eq other name.now then held self.old other ++ shape ∷ [] else held self.old other)) }
+        ensures shapes { OnOk result ((other : List ℕ) → held self.new other ≡ (if bytes_eq other name.now then held self.old other ++ shape ∷ [] else held self.old other)) }
+        ensures marks { OnOk result ((other key : List ℕ) (inner : ℕ) → IsMarked (kinds self.new other) key inner → IsMarked (kinds self.old other) key inner) }
     {
         let mut stack = Shapes::new(self.alloc);
         let Ok(()) = stack.push(shape) else {
@@ -91,12 +97,26 @@ impl Names {
 
     /// Takes the top off the stack of a name, if there is one.
     pub fn pop(&mut self, name: &[u8])
-        ensures { (other : List ℕ) → held self.new other ≡ (if bytes_eq other name.now then take (length (held self.old other) - 1) (held self.old other) else held self.old other) }
+        ensures shapes { (other : List ℕ) → held self.new other ≡ (if bytes_eq other name.now then take (length (held self.old other) - 1) (held self.old other) else held self.old other) }
+        ensures marks { (other key : List ℕ) (inner : ℕ) → IsMarked (kinds self.new other) key inner → IsMarked (kinds self.old other) key inner }
     {
         let Some(place) = self.names.get_index_of(name) else {
             return;
         };
         let stack = &mut self.stacks[place];
         stack.pop();
+    }
+
+    /// Marks the inner types of all shapes under a name, if there are any, under a key.
+    pub fn mark(&mut self, name: &[u8], key: &[u16]) -> Result<(), NoMemory>
+        ensures shapes { OnOk result ((other : List ℕ) → held self.new other ≡ held self.old other) }
+        ensures marks { OnOk result ((other under : List ℕ) (inner : ℕ) → IsMarked (kinds self.new other) under inner
+            → IsMarked (kinds self.old other) under inner ⊎ ((other ≡ name.now) × (under ≡ key.now) × Contains (inners (held self.old other)) inner)) }
+    {
+        let Some(place) = self.names.get_index_of(name) else {
+            return Ok(());
+        };
+        let stack = &mut self.stacks[place];
+        stack.mark(key)
     }
 }

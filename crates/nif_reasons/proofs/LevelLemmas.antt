@@ -22,19 +22,19 @@ use Rattle.nif_reasons.specs.Levels.{held_at, IsAdded, IsLevel, HasLevel}
 abbrev Same : List ℕ → List ℕ → Type 0
 Same xs ys = (k : ℕ) → Contains xs k ↔ Contains ys k
 
-both_ways : (a b : Bool) → (a ≡ true → b ≡ true) → (b ≡ true → a ≡ true) → a ≡ b
+pub both_ways : (a b : Bool) → (a ≡ true → b ≡ true) → (b ≡ true → a ≡ true) → a ≡ b
 both_ways true true f g = refl
 both_ways false false f g = refl
 both_ways true false f g = sym (f refl)
 both_ways false true f g = g refl
 
-contains-head : (x : ℕ) (xs : List ℕ) → Contains (x ∷ xs) x
+pub contains-head : {X : Type 0} (x : X) (xs : List X) → Contains (x ∷ xs) x
 contains-head x xs = Contains-append_left (x ∷ []) xs x (0, omega arith, refl)
 
-contains-tail : (x : ℕ) (xs : List ℕ) (k : ℕ) → Contains xs k → Contains (x ∷ xs) k
+contains-tail : {X : Type 0} (x : X) (xs : List X) (k : X) → Contains xs k → Contains (x ∷ xs) k
 contains-tail x xs k h = Contains-append_right (x ∷ []) xs k h
 
-only_one : (x k : ℕ) → Contains (x ∷ []) k → x ≡ k
+pub only_one : {X : Type 0} (x k : X) → Contains (x ∷ []) k → x ≡ k
 only_one x k h = let z : h.0 ≡ 0 = omega (arith, h.1) in sym (ap (λ i. get_or (x ∷ []) i k) z) ∙ h.2
 
 left : (a b : Bool) → (a && b) ≡ true → a ≡ true
@@ -45,12 +45,12 @@ right : (a b : Bool) → (a && b) ≡ true → b ≡ true
 right true b h = h
 right false b h = absurd (true≢false (sym h))
 
-list_any-at : (q : ℕ → Bool) (xs : List ℕ) (k : ℕ) → Contains xs k → q k ≡ true → list_any q xs ≡ true
+pub list_any-at : (q : ℕ → Bool) (xs : List ℕ) (k : ℕ) → Contains xs k → q k ≡ true → list_any q xs ≡ true
 list_any-at q xs k is yes_k = list_any_at q xs is.0 k is.1 (ap q is.2 ∙ yes_k)
 
 -- a test of all members
-module _ (q : ℕ → Bool) where
-  all-to : (xs : List ℕ) (k : ℕ) → list_all q xs ≡ true → Contains xs k → q k ≡ true
+module _ {X : Type 0} (q : X → Bool) where
+  pub all-to : (xs : List X) (k : X) → list_all q xs ≡ true → Contains xs k → q k ≡ true
   all-to [] k all is = absurd (omega (arith, is.1))
   all-to (x ∷ xs) k all is =
       elim (Contains-append_cases (x ∷ []) xs k is) [
@@ -58,15 +58,15 @@ module _ (q : ℕ → Bool) where
         | inr later ↦ all-to xs k (right (q x) (list_all q xs) all) later
       ]
 
-  all-from : (xs : List ℕ) → ((k : ℕ) → Contains xs k → q k ≡ true) → list_all q xs ≡ true
+  pub all-from : (xs : List X) → ((k : X) → Contains xs k → q k ≡ true) → list_all q xs ≡ true
   all-from [] each = refl
   all-from (x ∷ xs) each = ap (λ b. b && list_all q xs) (each x (contains-head x xs)) ∙ all-from xs (λ k h. each k (contains-tail x xs k h))
 
-  all-same : (xs ys : List ℕ) → Same xs ys → list_all q xs ≡ list_all q ys
-  all-same xs ys same = both_ways (list_all q xs) (list_all q ys)
-      (λ h. all-from ys (λ k is. all-to xs k h ((same k).1 is))) (λ h. all-from xs (λ k is. all-to ys k h ((same k).0 is)))
+all-same : (q : ℕ → Bool) (xs ys : List ℕ) → Same xs ys → list_all q xs ≡ list_all q ys
+all-same q xs ys same = both_ways (list_all q xs) (list_all q ys)
+    (λ h. all-from q ys (λ k is. all-to q xs k h ((same k).1 is))) (λ h. all-from q xs (λ k is. all-to q ys k h ((same k).0 is)))
 
-any-not : (q : ℕ → Bool) (xs : List ℕ) → list_any q xs ≡ not (list_all (λ k. not (q k)) xs)
+pub any-not : {X : Type 0} (q : X → Bool) (xs : List X) → list_any q xs ≡ not (list_all (λ k. not (q k)) xs)
 any-not q [] = refl
 any-not q (x ∷ xs) = by (q x) (any-not q xs)
   where
@@ -78,8 +78,8 @@ any-same : (q : ℕ → Bool) (xs ys : List ℕ) → Same xs ys → list_any q x
 any-same q xs ys same = any-not q xs ∙ ap not (all-same (λ k. not (q k)) xs ys same) ∙ sym (any-not q ys)
 
 -- what the parts hold together
-module _ (h : ℕ → List ℕ) where
-  flat-to : (xs : List ℕ) (k : ℕ) → Contains (flat_map h xs) k → (x : ℕ) × Contains xs x × Contains (h x) k
+module _ {X Y : Type 0} (h : X → List Y) where
+  pub flat-to : (xs : List X) (k : Y) → Contains (flat_map h xs) k → (x : X) × Contains xs x × Contains (h x) k
   flat-to [] k is = absurd (omega (arith, is.1))
   flat-to (x ∷ xs) k is =
       elim (Contains-append_cases (h x) (flat_map h xs) k is) [
@@ -87,7 +87,7 @@ module _ (h : ℕ → List ℕ) where
         | inr later ↦ let r = flat-to xs k later in (r.0, contains-tail x xs r.0 r.1, r.2)
       ]
 
-  flat-from : (xs : List ℕ) (x k : ℕ) → Contains xs x → Contains (h x) k → Contains (flat_map h xs) k
+  pub flat-from : (xs : List X) (x : X) (k : Y) → Contains xs x → Contains (h x) k → Contains (flat_map h xs) k
   flat-from [] x k is has = absurd (omega (arith, is.1))
   flat-from (y ∷ xs) x k is has =
       elim (Contains-append_cases (y ∷ []) xs x is) [
@@ -180,7 +180,7 @@ module _ (S : Schema) (name : Name) where
       )
 
   -- where all go on, the next name is looked up in their inner types
-  lead-all : (ms : List Meaning) → list_all (goes_on S) ms ≡ true → flat_map (inside S name) ms ≡ flat_map (lead S name) (inners (map (shape S) ms))
+  pub lead-all : (ms : List Meaning) → list_all (goes_on S) ms ≡ true → flat_map (inside S name) ms ≡ flat_map (lead S name) (inners (map (shape S) ms))
   lead-all [] all = refl
   lead-all (m ∷ ms) all =
       let r = inner-lead m (left (goes_on S m) (list_all (goes_on S) ms) all) in
@@ -188,7 +188,7 @@ module _ (S : Schema) (name : Name) where
       ∙ ap (λ l. lead S name r.0 ++ l) (lead-all ms (right (goes_on S m) (list_all (goes_on S) ms) all))
       ∙ sym (ap (λ o. flat_map (lead S name) (option_to_list o ++ inners (map (shape S) ms))) r.1)
 
-  lacks-all : (ms : List Meaning) → list_all (goes_on S) ms ≡ true
+  pub lacks-all : (ms : List Meaning) → list_all (goes_on S) ms ≡ true
       → list_any (λ m. is_empty (inside S name m)) ms ≡ list_any (λ k. is_empty (lead S name k)) (inners (map (shape S) ms))
   lacks-all [] all = refl
   lacks-all (m ∷ ms) all =
@@ -212,13 +212,13 @@ module _ (S : Schema) (name : Name) where
             ap (λ p. option_map_or (λ table. held table name) p []) r.1
             ∙ sym (ap (λ p. map (shape S) (option_map_or (inside_type S name k) (option_and_then (λ x. Some x.what) p) [])) lost)
 
-    held-leads : (ks : List ℕ) → flat_map (held_at tables name) ks ≡ map (shape S) (flat_map (lead S name) ks)
+    pub held-leads : (ks : List ℕ) → flat_map (held_at tables name) ks ≡ map (shape S) (flat_map (lead S name) ks)
     held-leads [] = refl
     held-leads (k ∷ ks) =
         ap (λ l. l ++ flat_map (held_at tables name) ks) (held-lead k) ∙ ap (λ l. map (shape S) (lead S name k) ++ l) (held-leads ks)
         ∙ sym (map-append (shape S) (lead S name k) (flat_map (lead S name) ks))
 
-    held-lacks : (ks : List ℕ) → list_any (λ k. is_empty (held_at tables name k)) ks ≡ list_any (λ k. is_empty (lead S name k)) ks
+    pub held-lacks : (ks : List ℕ) → list_any (λ k. is_empty (held_at tables name k)) ks ≡ list_any (λ k. is_empty (lead S name k)) ks
     held-lacks [] = refl
     held-lacks (k ∷ ks) =
         ap (λ l. is_empty l || list_any (λ x. is_empty (held_at tables name x)) ks) (held-lead k)
@@ -237,8 +237,8 @@ module _ (S : Schema) (name : Name) where
       lacking = lacks-all ms all ∙ sym (any-same (λ k. is_empty (lead S name k)) ks (inners (map (shape S) ms)) kinds) ∙ sym (held-lacks ks)
 
       -- a meaning lacks the name
-      pub level-none : (k : ℕ) → Contains ks k → held_at tables name k ≡ [] → HasLevel S ms name None
-      level-none k there none = lacking ∙ list_any-at (λ x. is_empty (held_at tables name x)) ks k there (ap is_empty none)
+      pub level-none : list_any (λ k. is_empty (held_at tables name k)) ks ≡ true → HasLevel S ms name None
+      level-none some = lacking ∙ some
 
       -- all have it
       pub level-some : (next : List Shape) → IsAdded tables name ks next → HasLevel S ms name (Some next)

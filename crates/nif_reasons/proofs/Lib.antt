@@ -2,6 +2,7 @@ mod JumpLemmas
 mod LevelLemmas
 mod Lists
 mod OwnLemmas
+mod PassLemmas
 mod PathLemmas
 mod ReasonLemmas
 mod ShapeLemmas

@@ -6,7 +6,7 @@ use Rattle.std.specs.Prelude.{slice_get}
 use Rattle.std.specs.Option.{option_map_or}
 use Rattle.nif_names.specs.Tables.{Table, held}
 use Rattle.nif_names.specs.declared.shapes.Shape.{Shape}
-use Rattle.nif_names.specs.Shapes.{Alike}
+use Rattle.nif_names.specs.Shapes.{Alike, Stack}
 use Rattle.nif_schema.specs.Declaration.{Name}
 use Rattle.nif_schema.specs.Schema.{Schema}
 use Rattle.nif_schema.specs.Paths.{Meaning, inside, is_empty}
@@ -35,3 +35,8 @@ held_at tables name number = option_map_or (λ table. held table name) (slice_ge
 pub record IsAdded (tables : List Table) (name : Name) (inner : List ℕ) (next : List Shape) : Type 0 where
   pub alike : Alike next (flat_map (held_at tables name) inner)
   pub found : list_any (λ k. is_empty (held_at tables name k)) inner ≡ false
+
+-- What the next name means in these types, if it means something in each.
+abbrev pub HasNext : List Table → Name → List ℕ → Option Stack → Type 0
+HasNext tables name types None = list_any (λ k. is_empty (held_at tables name k)) types ≡ true
+HasNext tables name types (Some next) = IsAdded tables name types next.shapes

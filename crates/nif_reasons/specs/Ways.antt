@@ -6,7 +6,7 @@ use Rattle.std.specs.declared.option.Option.{Option}
 use Rattle.nif_names.specs.Tables.{Table}
 use Rattle.nif_schema.specs.Declaration.{Field}
 use Rattle.nif_schema.specs.Schema.{Schema, parent, fields_of}
-use Rattle.nif_reasons.specs.Shaped.{HasFields}
+use Rattle.nif_reasons.specs.Marks.{IsLine}
 
 -- each is the child of the one before it, the first that of `above`
 abbrev pub IsWayFrom : Schema → Option ℕ → List ℕ → Type 0
@@ -24,7 +24,7 @@ fields_on schema way = flat_map (fields_of schema) way
 -- a way from a root, with a table of the fields on it
 pub record IsAt (schema : Schema) (stack : List ℕ) (names : Table) : Type 0 where
   pub way : IsWayFrom schema None stack
-  pub fields : HasFields schema (fields_on schema stack) names
+  pub line : IsLine schema (fields_on schema stack) names
 
 -- whether a struct has this number
 abbrev pub has_struct : Schema → ℕ → Bool

@@ -2,11 +2,11 @@
 ghost use Rattle.std.specs.Prelude.{◌≡◌, ◌||◌, List, IfOk};
 ghost use Rattle.nif_schema.specs.Declaration as plain;
 ghost use Rattle.nif_schema.specs.Declaration.{field};
-ghost use Rattle.nif_schema.specs.Schema.{Schema};
 ghost use Rattle.nif_schema.specs.Reasons as spec;
 ghost use Rattle.nif_schema.specs.Uses.{is_reference};
 ghost use Rattle.nif_reasons.specs.FieldReasons.{plain_reason, condition_reason, size_reason};
-ghost use Rattle.nif_reasons.specs.Shaped.{AreMarks, AreInsides, HasFields};
+ghost use Rattle.nif_reasons.specs.Marks.{Gives, IsLine};
+ghost use Rattle.nif_reasons.specs.Shaped.{AreMarks, AreInsides};
 
 use crate::formulas::{formula_reason, width_reason};
 use crate::shapes::named;
@@ -172,10 +172,10 @@ fn plain_reason(schema: &Schema, generic: &[bool], in_struct: bool, of: &Field) 
 fn condition_reason(
     alloc: Global,
     tables: &[Names],
-    line: &Names,
+    line: &mut Names,
     of: &Field,
 ) -> Result<Option<Closed>, NoMemory>
-    ensures { IfOk result (λ reason. (schema : Schema) (fields : List plain.Field) → AreInsides schema tables.now → HasFields schema fields line.now → reason ≡ condition_reason schema fields (field of.now)) }
+    ensures { IfOk result (Gives (λ schema fields. condition_reason schema fields (field of.now)) tables.now line.old line.new) }
 {
     match formula_reason(alloc, tables, line, &of.vercond) {
         Ok(None) => formula_reason(alloc, tables, line, &of.cond),
@@ -188,10 +188,10 @@ fn condition_reason(
 fn size_reason(
     alloc: Global,
     tables: &[Names],
-    line: &Names,
+    line: &mut Names,
     of: &Field,
 ) -> Result<Option<Closed>, NoMemory>
-    ensures { IfOk result (λ reason. (schema : Schema) (fields : List plain.Field) → AreInsides schema tables.now → HasFields schema fields line.now → reason ≡ size_reason schema fields (field of.now)) }
+    ensures { IfOk result (Gives (λ schema fields. size_reason schema fields (field of.now)) tables.now line.old line.new) }
 {
     match formula_reason(alloc, tables, line, &of.arg) {
         Ok(None) => {}
@@ -215,12 +215,12 @@ pub fn field_reason(
     generic: &[bool],
     in_struct: bool,
     tables: &[Names],
-    line: &Names,
+    line: &mut Names,
     of: &Field,
 ) -> Result<Option<Closed>, NoMemory>
     requires marks { AreMarks schema.now generic.now }
     requires insides { AreInsides schema.now tables.now }
-    ensures { IfOk result (λ reason. (fields : List plain.Field) → HasFields schema.now fields line.now → reason ≡ spec.field_reason schema.now in_struct fields (field of.now)) }
+    ensures { IfOk result (λ reason. (fields : List plain.Field) → IsLine schema.now fields line.old → (reason ≡ spec.field_reason schema.now in_struct fields (field of.now)) × IsLine schema.now fields line.new) }
 {
     let reason = plain_reason(schema, generic, in_struct, of);
     if reason.is_some() {

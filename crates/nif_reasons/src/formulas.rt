@@ -1,16 +1,14 @@
 //! Why an expression of a field closes a type.
-ghost use Rattle.std.specs.Prelude.{◌≡◌, ◌||◌, not, List, map, IfOk, option_copied};
+ghost use Rattle.std.specs.Prelude.{◌≡◌, ◌||◌, not, map, IfOk, option_copied};
 ghost use Rattle.std.specs.List.{list_all};
 ghost use Rattle.nif_schema.specs.declared.faults.Closed.TheVariants.{C9};
 ghost use Rattle.std.specs.Option.{option_map};
-ghost use Rattle.nif_schema.specs.Declaration as plain;
 ghost use Rattle.nif_schema.specs.Declaration.{formula};
 ghost use Rattle.nif_schema.specs.Expression.{tree};
-ghost use Rattle.nif_schema.specs.Schema.{Schema};
 ghost use Rattle.nif_schema.specs.Paths.{path_reason, paths_of};
 ghost use Rattle.nif_schema.specs.Reasons as spec;
 ghost use Rattle.nif_reasons.specs.FieldReasons.{bare_name, only_name};
-ghost use Rattle.nif_reasons.specs.Shaped.{AreInsides, HasFields};
+ghost use Rattle.nif_reasons.specs.Marks.{Gives};
 
 use crate::paths::path_reason;
 use nif_base::{NoMemory, Word};
@@ -22,10 +20,10 @@ use std::alloc::Global;
 fn expr_reason(
     alloc: Global,
     tables: &[Names],
-    line: &Names,
+    line: &mut Names,
     expr: &Expr,
 ) -> Result<Option<Closed>, NoMemory>
-    ensures { IfOk result (λ reason. (schema : Schema) (fields : List plain.Field) → AreInsides schema tables.now → HasFields schema fields line.now → reason ≡ spec.first_reason (map (path_reason schema fields) (paths_of (tree expr.now)))) }
+    ensures { IfOk result (Gives (λ schema fields. spec.first_reason (map (path_reason schema fields) (paths_of (tree expr.now)))) tables.now line.old line.new) }
 {
     match expr {
         Expr::Number { .. } => Ok(None),
@@ -44,10 +42,10 @@ fn expr_reason(
 pub fn formula_reason(
     alloc: Global,
     tables: &[Names],
-    line: &Names,
+    line: &mut Names,
     of: &Option<Formula>,
 ) -> Result<Option<Closed>, NoMemory>
-    ensures { IfOk result (λ reason. (schema : Schema) (fields : List plain.Field) → AreInsides schema tables.now → HasFields schema fields line.now → reason ≡ spec.formula_reason schema fields (option_map formula of.now)) }
+    ensures { IfOk result (Gives (λ schema fields. spec.formula_reason schema fields (option_map formula of.now)) tables.now line.old line.new) }
 {
     let Some(of) = of else {
         return Ok(None);
@@ -60,7 +58,7 @@ pub fn formula_reason(
 
 /// Why the fields of a bare name in a width close a type.
 fn bare_width_reason(shapes: &Shapes) -> Option<Closed>
-    ensures { result ≡ spec.reason_where C9 (not (list_all (λ s. s.number) shapes.now || list_all (λ s. s.row) shapes.now)) }
+    ensures { result ≡ spec.reason_where C9 (not (list_all (λ s. s.number) shapes.now.shapes || list_all (λ s. s.row) shapes.now.shapes)) }
 {
     if shapes.all_numbers() {
         return None;
@@ -102,10 +100,10 @@ fn only_name(path: &Path) -> Option<&Word>
 pub fn width_reason(
     alloc: Global,
     tables: &[Names],
-    line: &Names,
+    line: &mut Names,
     width: &Option<Formula>,
 ) -> Result<Option<Closed>, NoMemory>
-    ensures { IfOk result (λ reason. (schema : Schema) (fields : List plain.Field) → AreInsides schema tables.now → HasFields schema fields line.now → reason ≡ spec.width_reason schema fields (option_map formula width.now)) }
+    ensures { IfOk result (Gives (λ schema fields. spec.width_reason schema fields (option_map formula width.now)) tables.now line.old line.new) }
 {
     let Some(name) = bare_name(width) else {
         return formula_reason(alloc, tables, line, width);

@@ -227,8 +227,9 @@ fn all_reasons(
 }
 
 /// For each declaration, in order, its own reason: the first that closes it, whatever the types that it uses; or
-/// nothing. It takes near-linear time in declarations, fields and expressions, and for a path of several names as
-/// long as the different types that the names before each name lead to.
+/// nothing. It takes near-linear time in declarations, fields and expressions, and in what paths of several names
+/// look at: on a line, each different rest of a path looks once at each type of its first name, and for the names
+/// after it at the different types that they lead to.
 pub fn own_reasons(alloc: Global, schema: &Schema) -> Result<Vec<Option<Closed>>, NoMemory>
     ensures count { IfOk result (λ reasons. length reasons.items ≡ length schema.now) }
     ensures each { IfOk result (λ reasons. (number : ℕ) → number < length schema.now → slice_get reasons.items number ≡ Some (spec.own_reason schema.now number)) }

@@ -3,6 +3,7 @@ ghost use Rattle.std.specs.Prelude.{◌≡◌, ℕ, ◌<◌, List, [], ◌∷◌
 ghost use Rattle.nif_schema.specs.Declaration as plain;
 ghost use Rattle.nif_schema.specs.Declaration.{field};
 ghost use Rattle.nif_schema.specs.declared.members.BitMember.{BitMember};
+ghost use Rattle.nif_reasons.specs.Marks.{HasMarks};
 ghost use Rattle.nif_reasons.specs.Shaped.{AreMarks, AreInsides, HasFields, HasInside, HasBits};
 
 use crate::shapes::field_shape;
@@ -19,14 +20,16 @@ pub fn push_field(
     of: &Field,
 ) -> Result<(), NoMemory>
     requires { AreMarks schema.now generic.now }
-    ensures { OnOk result ((fields : List plain.Field) → HasFields schema.now fields names.old → HasFields schema.now (fields ++ field of.now ∷ []) names.new) }
+    ensures fields { OnOk result ((fields : List plain.Field) → HasFields schema.now fields names.old → HasFields schema.now (fields ++ field of.now ∷ []) names.new) }
+    ensures marks { OnOk result (HasMarks schema.now names.old → HasMarks schema.now names.new) }
 {
     names.push(of.name.bytes(), field_shape(schema, generic, of))
 }
 
 /// Takes the last field off.
 pub fn pop_field(schema: &Schema, names: &mut Names, of: &Field)
-    ensures { (fields : List plain.Field) → HasFields schema.now (fields ++ field of.now ∷ []) names.old → HasFields schema.now fields names.new }
+    ensures fields { (fields : List plain.Field) → HasFields schema.now (fields ++ field of.now ∷ []) names.old → HasFields schema.now fields names.new }
+    ensures marks { HasMarks schema.now names.old → HasMarks schema.now names.new }
 {
     names.pop(of.name.bytes());
 }

@@ -5,7 +5,8 @@ ghost use Rattle.nif_schema.specs.Declaration as plain;
 ghost use Rattle.nif_schema.specs.Declaration.{field};
 ghost use Rattle.nif_schema.specs.Schema.{parent, ancestor, fields_of};
 ghost use Rattle.nif_schema.specs.Reasons as spec;
-ghost use Rattle.nif_reasons.specs.Shaped.{AreMarks, AreInsides, HasFields};
+ghost use Rattle.nif_reasons.specs.Marks.{IsLine};
+ghost use Rattle.nif_reasons.specs.Shaped.{AreMarks, AreInsides};
 ghost use Rattle.nif_reasons.specs.Ways.{IsAt, last_or, fields_on, has_struct};
 
 use crate::fields::field_reason;
@@ -29,13 +30,13 @@ fn next_reason(
     generic: &[bool],
     in_struct: bool,
     tables: &[Names],
-    line: &Names,
+    line: &mut Names,
     so_far: Option<Closed>,
     of: &Field,
 ) -> Result<Option<Closed>, NoMemory>
     requires marks { AreMarks schema.now generic.now }
     requires insides { AreInsides schema.now tables.now }
-    ensures { IfOk result (λ reason. (fields : List plain.Field) → HasFields schema.now fields line.now → reason ≡ spec.first_reason (so_far ∷ spec.field_reason schema.now in_struct fields (field of.now) ∷ [])) }
+    ensures { IfOk result (λ reason. (fields : List plain.Field) → IsLine schema.now fields line.old → (reason ≡ spec.first_reason (so_far ∷ spec.field_reason schema.now in_struct fields (field of.now) ∷ [])) × IsLine schema.now fields line.new) }
 {
     if so_far.is_some() {
         return Ok(so_far);
@@ -55,7 +56,7 @@ fn add_fields(
 ) -> Result<Option<Closed>, NoMemory>
     requires marks { AreMarks schema.now generic.now }
     requires insides { AreInsides schema.now tables.now }
-    ensures { IfOk result (λ reason. (earlier : List plain.Field) → HasFields schema.now earlier line.old → (reason ≡ spec.fields_reason schema.now in_struct earlier (map field fields.now)) × HasFields schema.now (earlier ++ map field fields.now) line.new) }
+    ensures { IfOk result (λ reason. (earlier : List plain.Field) → IsLine schema.now earlier line.old → (reason ≡ spec.fields_reason schema.now in_struct earlier (map field fields.now)) × IsLine schema.now (earlier ++ map field fields.now) line.new) }
 {
     let mut reason = None;
     for place in 0..fields.len() {
@@ -73,7 +74,7 @@ fn add_fields(
 
 /// Takes fields off the end of a line.
 fn drop_fields(schema: &Schema, line: &mut Names, fields: &Fields)
-    ensures { (earlier : List plain.Field) → HasFields schema.now (earlier ++ map field fields.now) line.old → HasFields schema.now earlier line.new }
+    ensures { (earlier : List plain.Field) → IsLine schema.now (earlier ++ map field fields.now) line.old → IsLine schema.now earlier line.new }
 {
     let mut left = fields.len();
     while left > 0 {
@@ -174,7 +175,7 @@ fn line_above(
     requires marks { AreMarks schema.now generic.now }
     requires within { number < length schema.now }
     requires ends { ancestor schema.now (length schema.now) number ≡ None }
-    ensures { IfOk result (HasFields schema.now (spec.line_above schema.now number)) }
+    ensures { IfOk result (IsLine schema.now (spec.line_above schema.now number)) }
 {
     let mut line = Names::new(alloc);
     let Some(parent) = schema.parent(number) else {

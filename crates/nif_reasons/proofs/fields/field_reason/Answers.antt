@@ -19,27 +19,34 @@ parts S s earlier f = three
     (spec.formula_reason S earlier f.arg ∷ spec.formula_reason S earlier f.length ∷ spec.width_reason S earlier (spec.width_where f.length f.width) ∷ [])
 
 pub returns-then-is_some : goal.returns-then-is_some
-returns-then-is_some c = λ fields has.
+returns-then-is_some c = λ fields line.
     let S = c.args.schema.now in
-    let f = field c.args.of.now in
-    first-here c.plain_reason-reason.result (condition_reason S fields f ∷ size_reason S fields f ∷ []) (sym c.if-is_some.ensures)
-    ∙ ap (λ a. spec.first_reason (a ∷ condition_reason S fields f ∷ size_reason S fields f ∷ [])) c.plain_reason-reason.ensures ∙ parts S c.args.in_struct fields f
+    let f = field c.args.of.now in (
+      first-here c.plain_reason-reason.result (condition_reason S fields f ∷ size_reason S fields f ∷ []) (sym c.if-is_some.ensures)
+          ∙ ap (λ a. spec.first_reason (a ∷ condition_reason S fields f ∷ size_reason S fields f ∷ [])) c.plain_reason-reason.ensures ∙ parts S c.args.in_struct fields f,
+      line,
+    )
 
 pub returns-in-Ok-None : goal.returns-in-Ok-None
-returns-in-Ok-None c = on c.size_reason.result c.size_reason.ensures (λ reason says fields has.
+returns-in-Ok-None c = on c.size_reason.result c.size_reason.ensures (λ reason says fields line.
     let S = c.args.schema.now in
     let f = field c.args.of.now in
-    let none = c.in-Ok-None.ensures S fields c.requires.insides has in
-    says S fields c.requires.insides has
-    ∙ pair-none (condition_reason S fields f) (size_reason S fields f) (sym c.in-Ok-None.field-0-is ∙ none)
-    ∙ first-later c.plain_reason-reason.result (condition_reason S fields f ∷ size_reason S fields f ∷ []) (sym c.if-is_some.ensures)
-    ∙ ap (λ a. spec.first_reason (a ∷ condition_reason S fields f ∷ size_reason S fields f ∷ [])) c.plain_reason-reason.ensures ∙ parts S c.args.in_struct fields f)
+    let first = c.in-Ok-None.ensures S fields c.requires.insides line in
+    let second = says S fields c.requires.insides first.1 in (
+      second.0
+          ∙ pair-none (condition_reason S fields f) (size_reason S fields f) (sym c.in-Ok-None.field-0-is ∙ first.0)
+          ∙ first-later c.plain_reason-reason.result (condition_reason S fields f ∷ size_reason S fields f ∷ []) (sym c.if-is_some.ensures)
+          ∙ ap (λ a. spec.first_reason (a ∷ condition_reason S fields f ∷ size_reason S fields f ∷ [])) c.plain_reason-reason.ensures ∙ parts S c.args.in_struct fields f,
+      second.1,
+    ))
 
 pub returns-in-Ok-Some : goal.returns-in-Ok-Some
-returns-in-Ok-Some c = λ fields has.
+returns-in-Ok-Some c = λ fields line.
     let S = c.args.schema.now in
     let f = field c.args.of.now in
-    let some = c.in-Ok-Some.ensures S fields c.requires.insides has in
-    pair-some c.in-Ok-Some.reason (condition_reason S fields f) (size_reason S fields f ∷ []) (sym c.in-Ok-Some.field-0-is ∙ some)
-    ∙ first-later c.plain_reason-reason.result (condition_reason S fields f ∷ size_reason S fields f ∷ []) (sym c.if-is_some.ensures)
-    ∙ ap (λ a. spec.first_reason (a ∷ condition_reason S fields f ∷ size_reason S fields f ∷ [])) c.plain_reason-reason.ensures ∙ parts S c.args.in_struct fields f
+    let some = c.in-Ok-Some.ensures S fields c.requires.insides line in (
+      pair-some c.in-Ok-Some.reason (condition_reason S fields f) (size_reason S fields f ∷ []) (sym c.in-Ok-Some.field-0-is ∙ some.0)
+          ∙ first-later c.plain_reason-reason.result (condition_reason S fields f ∷ size_reason S fields f ∷ []) (sym c.if-is_some.ensures)
+          ∙ ap (λ a. spec.first_reason (a ∷ condition_reason S fields f ∷ size_reason S fields f ∷ [])) c.plain_reason-reason.ensures ∙ parts S c.args.in_struct fields f,
+      some.1,
+    )

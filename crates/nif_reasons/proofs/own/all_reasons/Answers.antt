@@ -1,8 +1,10 @@
-use Rattle.std.proofs.Common.{◌≡◌, ◌<◌, Option, Some, None, IfSome, length, slice_get, refl, sym, ap, ◌∷◌, [], ◌∙◌, arith}
+use Rattle.std.proofs.Common.{◌≡◌, ◌<◌, Option, Some, None, IfSome, length, slice_get, refl, sym, ap, subst, ◌∷◌, [], ◌∙◌, arith}
 use Rattle.std.proofs.lemmas.List.{length-append}
 use Rattle.std.proofs.lemmas.Option.{slice_get-get_or}
 use Rattle.nif_schema.specs.Reasons.{own_reason}
+use Rattle.nif_reasons.specs.Ways.{IsAt}
 use Rattle.nif_reasons.proofs.Lists.{below-push}
+use Rattle.nif_reasons.proofs.PassLemmas.{IsLine-none}
 use Rattle.nif_reasons.proofs.own.all_reasons.Goals as goal
 
 if_some : {X : Type 0} {P : X → Type 0} (o : Option X) → ((x : X) → o ≡ Some x → P x) → IfSome o P
@@ -30,3 +32,9 @@ loop-number-preserved c =
       (λ k lt. ap (λ l. slice_get l k) is ∙ below-push (own_reason S) old new (λ j h. i.1 j (omega (arith, h, count))) (c.in-Ok-found_or_own.ensures.reason ∙ ap (own_reason S) (sym count)) k (omega (arith, lt, count))),
       c.in-Ok-found_or_own.ensures.at,
     )
+
+pub found_in_order-requires-clause-at : goal.found_in_order-requires-clause-at
+found_in_order-requires-clause-at c =
+    let S = c.args.schema.now in
+    subst (λ l. IsAt S l c.new-2.result) (sym c.new.ensures.items)
+    (record { way = tt; line = IsLine-none S c.new-2.result c.new-2.ensures.shapes c.new-2.ensures.marks })

@@ -15,4 +15,4 @@ returns-in-Stored c = on c.bit_names.result c.bit_names.ensures (λ t. HasInside
 
 pub returns-in_default : goal.returns-in_default
 returns-in_default c = HasInside-other c.args.schema.now c.args.number (declaration c.decl-decl.result.now) c.decl-decl.ensures c.new.result c.in_default.not-Struct
-    (λ storage members e. c.in_default.not-Stored storage members e) c.new.ensures
+    (λ storage members e. c.in_default.not-Stored storage members e) c.new.ensures.shapes

@@ -12,4 +12,4 @@ loop-place-preserved c =
     let place = c.loop-place.place in
     subst (λ l. HasFields c.args.schema.now l c.push_field.new.names)
     (sym (ap (map field) (take-next fields place f c.get.ensures) ∙ map-append field (take place fields) (f ∷ [])))
-    (c.in-Ok.ensures (map field (take place fields)) c.loop-place.invariant)
+    (c.in-Ok.ensures.fields (map field (take place fields)) c.loop-place.invariant)

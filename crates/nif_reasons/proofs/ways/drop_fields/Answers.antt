@@ -1,7 +1,7 @@
 use Rattle.std.proofs.Common.{◌≡◌, ◌+◌, ◌-◌, ◌∷◌, [], ◌++◌, map, take, sym, ap, subst, ◌∙◌, arith}
 use Rattle.std.proofs.lemmas.List.{append_assoc, append-nil, map-append}
 use Rattle.nif_schema.specs.Declaration.{field}
-use Rattle.nif_reasons.specs.Shaped.{HasFields}
+use Rattle.nif_reasons.specs.Marks.{IsLine}
 use Rattle.nif_reasons.proofs.Lists.{take-next}
 use Rattle.nif_reasons.proofs.ways.drop_fields.Goals as goal
 
@@ -20,7 +20,8 @@ loop-left-preserved c =
           let longer : earlier ++ map field (take left fs) ≡ before ++ field kept ∷ [] =
           ap (λ l. earlier ++ l) (ap (λ n. map field (take n fs)) (sym one) ∙ ap (map field) (take-next fs (left - 1) kept c.get.ensures) ∙ map-append field (take (left - 1) fs) (kept ∷ []))
           ∙ sym (append_assoc earlier (map field (take (left - 1) fs)) (field kept ∷ [])) in
-          c.pop_field.ensures before (subst (λ l. HasFields S l c.loop-left.line) longer (c.loop-left.invariant.1 earlier has)),
+          let line = subst (λ l. IsLine S l c.loop-left.line) longer (c.loop-left.invariant.1 earlier has) in
+          record { names = c.pop_field.ensures.fields before line.names; marks = c.pop_field.ensures.marks line.marks },
     )
 
 pub returns : goal.returns
@@ -28,5 +29,5 @@ returns c = λ earlier has.
     let fs = c.args.fields.now in
     let none = c.loop-left-test.false in
     let z : c.loop-left.left ≡ 0 = omega (arith, none) in
-    subst (λ l. HasFields c.args.schema.now l c.loop-left.line) (append-nil earlier)
-    (subst (λ n. HasFields c.args.schema.now (earlier ++ map field (take n fs)) c.loop-left.line) z (c.loop-left.invariant.1 earlier has))
+    subst (λ l. IsLine c.args.schema.now l c.loop-left.line) (append-nil earlier)
+    (subst (λ n. IsLine c.args.schema.now (earlier ++ map field (take n fs)) c.loop-left.line) z (c.loop-left.invariant.1 earlier has))

@@ -2,7 +2,7 @@ use Rattle.std.proofs.Common.{◌++◌, [], None, Option, false, map, sym, ap, s
 use Rattle.std.specs.Option.{option_map_or}
 use Rattle.nif_schema.specs.Declaration.{Declaration, field}
 use Rattle.nif_schema.specs.Reasons as spec
-use Rattle.nif_reasons.specs.Shaped.{HasFields}
+use Rattle.nif_reasons.specs.Marks.{IsLine}
 use Rattle.nif_reasons.specs.Ways.{IsAt, fields_on, has_struct}
 use Rattle.nif_schema.specs.Uses.{is_struct}
 use Rattle.nif_reasons.proofs.WayLemmas.{way-push, fields-push}
@@ -14,10 +14,10 @@ returns-clause-at c =
     let n = c.args.number in
     let old = c.args.way.now.stack.items in
     let own = ap (λ (o : Option Declaration). option_map_or (λ d. d.fields) o []) c.decl-decl.ensures in
-    let added = c.in-Ok.ensures (fields_on S old) c.requires.at.fields in
+    let added = c.in-Ok.ensures (fields_on S old) c.requires.at.line in
     subst (λ l. IsAt S l c.add_fields.new.line) (sym c.in-Ok-push.ensures.items) (record {
       way = way-push S None old n c.requires.at.way c.requires.within c.requires.child;
-      fields = subst (λ l. HasFields S l c.add_fields.new.line) (sym (fields-push S old n ∙ ap (λ l. fields_on S old ++ l) own)) added.1;
+      line = subst (λ l. IsLine S l c.add_fields.new.line) (sym (fields-push S old n ∙ ap (λ l. fields_on S old ++ l) own)) added.1;
     })
 
 pub returns-clause-reason : goal.returns-clause-reason
@@ -26,6 +26,6 @@ returns-clause-reason c =
     let old = c.args.way.now.stack.items in
     let own = ap (λ (o : Option Declaration). option_map_or (λ d. d.fields) o []) c.decl-decl.ensures in
     let kind = c.is_struct-in_struct.ensures ∙ sym (ap (λ (o : Option Declaration). option_map_or (λ d. is_struct d.what) o false) c.decl-decl.ensures) in
-    let added = c.in-Ok.ensures (fields_on S old) c.requires.at.fields in
+    let added = c.in-Ok.ensures (fields_on S old) c.requires.at.line in
     added.0 ∙ ap (λ b. spec.fields_reason S b (fields_on S old) (map field c.decl-decl.result.now.fields)) kind
     ∙ ap (spec.fields_reason S (has_struct S c.args.number) (fields_on S old)) (sym own)

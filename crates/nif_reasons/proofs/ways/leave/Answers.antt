@@ -1,7 +1,7 @@
 use Rattle.std.proofs.Common.{◌++◌, [], None, Option, ap, subst, ◌∙◌}
 use Rattle.std.specs.Option.{option_map_or}
 use Rattle.nif_schema.specs.Declaration.{Declaration}
-use Rattle.nif_reasons.specs.Shaped.{HasFields}
+use Rattle.nif_reasons.specs.Marks.{IsLine}
 use Rattle.nif_reasons.specs.Ways.{IsWayFrom, fields_on}
 use Rattle.nif_reasons.proofs.WayLemmas.{way-pop, fields-push}
 use Rattle.nif_reasons.proofs.ways.leave.Goals as goal
@@ -20,6 +20,6 @@ returns-clause-at c =
     let own = ap (λ (o : Option Declaration). option_map_or (λ d. d.fields) o []) c.decl.ensures in
     record {
       way = (way-pop S None rest n (subst (IsWayFrom S None) whole c.requires.way)).0;
-      fields = c.drop_fields.ensures (fields_on S rest)
-          (subst (λ l. HasFields S l c.args.way.now.names) (ap (fields_on S) whole ∙ fields-push S rest n ∙ ap (λ l. fields_on S rest ++ l) own) c.requires.fields);
+      line = c.drop_fields.ensures (fields_on S rest)
+          (subst (λ l. IsLine S l c.args.way.now.names) (ap (fields_on S) whole ∙ fields-push S rest n ∙ ap (λ l. fields_on S rest ++ l) own) c.requires.line);
     }

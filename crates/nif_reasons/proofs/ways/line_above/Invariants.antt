@@ -1,7 +1,7 @@
 use Rattle.std.proofs.Common.{map}
 use Rattle.nif_schema.specs.Declaration.{field}
-use Rattle.nif_reasons.specs.Shaped.{HasFields}
+use Rattle.nif_reasons.specs.Marks.{IsLine}
 use Rattle.nif_reasons.proofs.ways.line_above.Given as goal
 
 abbrev pub invariant-loop-of : goal.invariant-loop-of
-invariant-loop-of l = HasFields l.schema (map (λ f. field f.now) l.yielded) l.line
+invariant-loop-of l = IsLine l.schema (map (λ f. field f.now) l.yielded) l.line

@@ -7,8 +7,8 @@ use Rattle.nif_names.proofs.shapes.Shapes.inners.Goals as goal
 pub returns : goal.returns
 returns c =
     let entries = c.self.inside.entries.items in
-    let given : c.as_slice.result.now ≡ flat_map new_inner entries = c.as_slice.ensures.value ∙ c.self.invariant.new in
+    let given : c.types.result.now ≡ flat_map new_inner entries = c.types.ensures ∙ c.self.invariant.new in
     λ k. (
-      (λ h. subst (λ s. Contains (inners s) k) c.self.view_is (new-inners k entries (subst (λ l. Contains l k) given h))),
-      (λ h. subst (λ l. Contains l k) (sym given) (inners-new k [] entries c.self.invariant.covered (subst (λ s. Contains (inners s) k) (sym c.self.view_is) h))),
+      (λ h. subst (λ s. Contains (inners s.shapes) k) c.self.view_is (new-inners k entries (subst (λ l. Contains l k) given h))),
+      (λ h. subst (λ l. Contains l k) (sym given) (inners-new k [] entries c.self.invariant.covered (subst (λ s. Contains (inners s.shapes) k) (sym c.self.view_is) h))),
     )

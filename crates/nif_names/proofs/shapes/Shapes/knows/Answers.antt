@@ -8,7 +8,7 @@ returns-in-Some-get c = λ same.
     let found = c.in-Some-get.found.now in
     let place = c.in-Some.place.now in
     let one : found ≡ c.args.inner = grind (arith, same) in
-    let there : get_or c.deref.result.now place c.args.inner ≡ c.args.inner = sym (c.in-Some-get.ensures.lookup.3.1 c.args.inner) ∙ one in
-    let kept = c.deref.ensures.value ∙ c.self.invariant.new in
-    subst (λ s. Contains (inners s) c.args.inner) c.self.view_is
+    let there : get_or c.types.result.now place c.args.inner ≡ c.args.inner = sym (c.in-Some-get.ensures.lookup.3.1 c.args.inner) ∙ one in
+    let kept = c.types.ensures ∙ c.self.invariant.new in
+    subst (λ s. Contains (inners s.shapes) c.args.inner) c.self.view_is
     (new-inners c.args.inner c.self.inside.entries.items (subst (λ l. Contains l c.args.inner) kept (place, c.in-Some-get.ensures.lookup.3.0, there)))

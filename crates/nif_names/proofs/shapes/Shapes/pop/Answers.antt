@@ -7,10 +7,10 @@ use Rattle.nif_names.proofs.shapes.Shapes.pop.Goals as goal
 pub invariant_of-self-2 : goal.invariant_of-self-2
 invariant_of-self-2 c =
     let i = c.self.inside in
-    let inners = i.inners.items in
-    let whole = λ (es : List Entry). IsStack es i.inners.items i.not_numbers i.not_rows i.not_inner in
-    IsStack-pop c.pop.new.self.items c.in-Some.entry inners c.truncate.new.self.items i.not_numbers i.not_rows i.not_inner _ _ _
+    let inners = i.inners.types in
+    let whole = λ (es : List Entry). IsStack es i.inners.types i.not_numbers i.not_rows i.not_inner in
+    IsStack-pop c.pop.new.self.items c.in-Some.entry inners c.cut.new.self.types i.not_numbers i.not_rows i.not_inner _ _ _
     (subst whole c.in-Some.ensures.items c.self.invariant)
-    (c.truncate.ensures.items ∙ ap (λ n. take (n - c.kept.result) inners) (c.len.ensures ∙ i.inners.ok.0) ∙ ap (λ n. take (length inners - n) inners) c.kept.ensures)
+    (c.cut.ensures.types ∙ ap (λ n. take (n - c.kept.result) inners) (ap length c.types.ensures) ∙ ap (λ n. take (length inners - n) inners) c.kept.ensures)
     (ap (λ n. i.not_numbers - n) (c.from.ensures ∙ as_number _)) (ap (λ n. i.not_rows - n) (c.from-2.ensures ∙ as_number _))
     (ap (λ n. i.not_inner - n) (c.from-3.ensures ∙ none_as_number c.in-Some.entry.shape.inner c.is_none.result c.is_none.ensures))

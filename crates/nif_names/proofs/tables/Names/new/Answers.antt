@@ -1,7 +1,16 @@
-use Rattle.std.proofs.Common.{ℕ, List, Vec, Global, map, ap}
-use Rattle.nif_names.specs.Tables.{held, stack_of}
+use Rattle.std.proofs.Common.{ℕ, List, Vec, Global, map, ap, subst}
+use Rattle.nif_names.specs.Marks.{IsMarked}
+use Rattle.nif_names.specs.Shapes.{Stack}
+use Rattle.nif_names.specs.Tables.{held, kinds, stack_of}
+use Rattle.nif_names.proofs.MarkLemmas.{none-marked}
 use Rattle.nif_names.proofs.tables.Names.new.Goals as goal
 
-pub returns : goal.returns
+pub returns-clause-shapes : goal.returns-clause-shapes
 unfolding held
-returns c = λ name. let h = c.new.ensures.empty in ap (λ (ks : List (Vec ℕ Global)). stack_of name (map (λ (k : Vec ℕ Global). k.items) ks) c.new-2.result.items) h
+returns-clause-shapes c = λ name. let h = c.new.ensures.empty in ap (λ (ks : List (Vec ℕ Global)). (stack_of name (map (λ (k : Vec ℕ Global). k.items) ks) c.new-2.result.items).shapes) h
+
+pub returns-clause-marks : goal.returns-clause-marks
+unfolding kinds
+returns-clause-marks c = λ name key inner is.
+    let h = c.new.ensures.empty in
+    none-marked key inner (subst (λ (ks : List (Vec ℕ Global)). IsMarked (stack_of name (map (λ (k : Vec ℕ Global). k.items) ks) c.new-2.result.items).kinds key inner) h is)

@@ -1,37 +1,52 @@
-use Rattle.std.proofs.Common.{◌≡◌, ℕ, ◌-◌, List, Vec, Global, [], map, take, length, set, cond, Bool, true, false, bytes_eq, refl, sym, ap, subst, ◌∙◌}
+use Rattle.std.proofs.Common.{◌≡◌, ℕ, ◌-◌, List, Vec, Global, [], map, take, length, cond, Bool, true, false, bytes_eq, refl, sym, ap, subst, ◌∙◌}
 use Rattle.std.proofs.lemmas.Slice.Eq.{bytes_eq-Decides}
 use Rattle.nif_names.specs.declared.shapes.Shape.{Shape}
-use Rattle.nif_names.specs.Tables.{Table, held, stack_of}
-use Rattle.nif_names.proofs.TableLemmas.{stack-change, stack-none, list_any-map}
+use Rattle.nif_names.specs.Marks.{IsMarked}
+use Rattle.nif_names.specs.Shapes.{Stack}
+use Rattle.nif_names.specs.Tables.{Table, held, kinds, stack_of, no_stack}
+use Rattle.nif_names.proofs.TableLemmas.{shapes-change, change-back, stack-none, list_any-map}
 use Rattle.nif_names.proofs.tables.Names.pop.Goals as goal
 
 less : List Shape → List Shape
 less shapes = take (length shapes - 1) shapes
 
-unchanged : (t : Table) (name other : List ℕ) (b : Bool) → bytes_eq other name ≡ b → stack_of name t.names t.stacks ≡ []
-    → stack_of other t.names t.stacks ≡ cond b (take (length (stack_of other t.names t.stacks) - 1) (stack_of other t.names t.stacks)) (stack_of other t.names t.stacks)
+shapes_in : Table → List ℕ → List Shape
+shapes_in t name = (stack_of name t.names t.stacks).shapes
+
+unchanged : (t : Table) (name other : List ℕ) (b : Bool) → bytes_eq other name ≡ b → stack_of name t.names t.stacks ≡ no_stack
+    → shapes_in t other ≡ cond b (take (length (shapes_in t other) - 1) (shapes_in t other)) (shapes_in t other)
+unfolding shapes_in
 unchanged t name other false h none = refl
 unchanged t name other true h none =
     let same : other ≡ name = (bytes_eq-Decides other name).0 h in
-    let empty : stack_of other t.names t.stacks ≡ [] = ap (λ n. stack_of n t.names t.stacks) same ∙ none in
+    let empty : (stack_of other t.names t.stacks).shapes ≡ [] = ap (λ n. (stack_of n t.names t.stacks).shapes) same ∙ ap (λ (s : Stack). s.shapes) none in
     empty ∙ sym (ap (λ (s : List Shape). take (length s - 1) s) empty)
 
-pub returns-in_default : goal.returns-in_default
-unfolding held
-returns-in_default c = λ other.
+pub returns-in_default-clause-shapes : goal.returns-in_default-clause-shapes
+unfolding held shapes_in
+returns-in_default-clause-shapes c = λ other.
     let bytes = λ (k : Vec ℕ Global). k.items in
     let keys = c.self.inside.names.keys in
     let none = list_any-map (bytes_eq c.args.name.now) bytes keys ∙ sym c.in_default.ensures.found in
-    let none_there = subst (λ t. stack_of c.args.name.now t.names t.stacks ≡ []) c.self.view_is (stack-none bytes c.args.name.now (map bytes keys) c.self.inside.stacks.items none) in
+    let none_there = subst (λ t. stack_of c.args.name.now t.names t.stacks ≡ no_stack) c.self.view_is (stack-none bytes c.args.name.now (map bytes keys) c.self.inside.stacks.items none) in
     unchanged c.args.self.now c.args.name.now other (bytes_eq other c.args.name.now) refl none_there
 
-pub returns : goal.returns
+pub returns-clause-shapes : goal.returns-clause-shapes
 unfolding held less
-returns c = λ other.
+returns-clause-shapes c = λ other.
     let bytes = λ (k : Vec ℕ Global). k.items in
     let i = c.self.inside in
     let given = c.index_mut-stack.result.now in
-    let changed = stack-change bytes c.args.name.now less given other i.names.keys i.stacks.items c.in-Some.place (sym c.in-Some.ensures.index) c.self.invariant in
-    ap (λ s. stack_of other (map bytes i.names.keys) (set i.stacks.items c.in-Some.place s)) (c.pop.ensures ∙ ap less c.index_mut-stack.ensures.value)
-    ∙ changed
-    ∙ ap (λ t. cond (bytes_eq other c.args.name.now) (less (stack_of other t.names t.stacks)) (stack_of other t.names t.stacks)) c.self.view_is
+    shapes-change bytes c.args.name.now c.pop.new.self given other i.names.keys i.stacks.items c.in-Some.place (sym c.in-Some.ensures.index) c.self.invariant less
+    (c.pop.ensures.shapes ∙ ap (λ (s : Stack). less s.shapes) c.index_mut-stack.ensures.value)
+    ∙ ap (λ t. cond (bytes_eq other c.args.name.now) (less (stack_of other t.names t.stacks).shapes) (stack_of other t.names t.stacks).shapes) c.self.view_is
+
+pub returns-clause-marks : goal.returns-clause-marks
+unfolding kinds
+returns-clause-marks c = λ other key inner is.
+    let bytes = λ (k : Vec ℕ Global). k.items in
+    let i = c.self.inside in
+    let given = c.index_mut-stack.result.now in
+    subst (λ t. IsMarked (stack_of other t.names t.stacks).kinds key inner) c.self.view_is
+    (change-back bytes c.args.name.now c.pop.new.self given other i.names.keys i.stacks.items c.in-Some.place (sym c.in-Some.ensures.index) c.self.invariant
+    (λ s. IsMarked s.kinds key inner) (λ m. subst (λ (s : Stack). IsMarked s.kinds key inner) c.index_mut-stack.ensures.value (c.pop.ensures.marks key inner m)) is)

@@ -1,8 +1,10 @@
-use Rattle.std.proofs.Common.{ℕ, ◌∷◌, ◌++◌, List, Vec, Global, [], map, set, cond, bytes_eq, sym, ap, ◌∙◌, Ok, Err, Result, OnOk}
+use Rattle.std.proofs.Common.{ℕ, ◌∷◌, ◌++◌, List, Vec, Global, [], cond, bytes_eq, sym, ap, subst, ◌∙◌, Ok, Err, Result, OnOk}
 use Rattle.std.specs.List.{list_any}
 use Rattle.nif_names.specs.declared.shapes.Shape.{Shape}
-use Rattle.nif_names.specs.Tables.{held, stack_of}
-use Rattle.nif_names.proofs.TableLemmas.{stack-change, list_any-map}
+use Rattle.nif_names.specs.Marks.{IsMarked}
+use Rattle.nif_names.specs.Shapes.{Stack}
+use Rattle.nif_names.specs.Tables.{held, kinds, stack_of}
+use Rattle.nif_names.proofs.TableLemmas.{shapes-change, change-back, list_any-map}
 use Rattle.nif_names.proofs.tables.Names.push.Goals as goal
 
 pub push_first-requires : goal.push_first-requires
@@ -15,14 +17,25 @@ on : {E : Type 0} {P Q : Type 0} (r : Result (Unit {0}) E) → OnOk r P → (P �
 on (Ok x) p f = f p
 on (Err e) p f = tt
 
-pub returns : goal.returns
+pub returns-clause-shapes : goal.returns-clause-shapes
 unfolding held
-returns c =
+returns-clause-shapes c =
     let bytes = λ (k : Vec ℕ Global). k.items in
     let i = c.self.inside in
     let more : List Shape → List Shape = λ s. s ++ c.args.shape ∷ [] in
     let given = c.index_mut-stack.result.now in
     on c.push.result c.push.ensures.ok (λ pushed other.
-    ap (λ s. stack_of other (map bytes i.names.keys) (set i.stacks.items c.in-Some.place s)) (pushed ∙ ap more c.index_mut-stack.ensures.value)
-    ∙ stack-change bytes c.args.name.now more given other i.names.keys i.stacks.items c.in-Some.place (sym c.in-Some.ensures.index) c.self.invariant
-    ∙ ap (λ t. cond (bytes_eq other c.args.name.now) (more (stack_of other t.names t.stacks)) (stack_of other t.names t.stacks)) c.self.view_is)
+    shapes-change bytes c.args.name.now c.push.new.self given other i.names.keys i.stacks.items c.in-Some.place (sym c.in-Some.ensures.index) c.self.invariant more
+    (pushed ∙ ap (λ (s : Stack). more s.shapes) c.index_mut-stack.ensures.value)
+    ∙ ap (λ t. cond (bytes_eq other c.args.name.now) (more (stack_of other t.names t.stacks).shapes) (stack_of other t.names t.stacks).shapes) c.self.view_is)
+
+pub returns-clause-marks : goal.returns-clause-marks
+unfolding kinds
+returns-clause-marks c =
+    let bytes = λ (k : Vec ℕ Global). k.items in
+    let i = c.self.inside in
+    let given = c.index_mut-stack.result.now in
+    on c.push.result c.push.ensures.marks (λ says other key inner is.
+    subst (λ t. IsMarked (stack_of other t.names t.stacks).kinds key inner) c.self.view_is
+    (change-back bytes c.args.name.now c.push.new.self given other i.names.keys i.stacks.items c.in-Some.place (sym c.in-Some.ensures.index) c.self.invariant
+    (λ s. IsMarked s.kinds key inner) (λ m. subst (λ (s : Stack). IsMarked s.kinds key inner) c.index_mut-stack.ensures.value (says key inner m)) is))

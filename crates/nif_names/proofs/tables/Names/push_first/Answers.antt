@@ -1,8 +1,10 @@
-use Rattle.std.proofs.Common.{◌≡◌, ℕ, ◌∷◌, ◌++◌, List, Vec, Global, [], map, length, cond, bytes_eq, if◌then◌else◌, false, sym, ap, ◌∙◌, arith}
+use Rattle.std.proofs.Common.{◌≡◌, ℕ, ◌∷◌, ◌++◌, List, Vec, Global, [], map, length, cond, bytes_eq, if◌then◌else◌, false, sym, ap, subst, ◌∙◌, arith}
 use Rattle.std.specs.List.{list_any}
 use Rattle.std.proofs.lemmas.List.{map-append, length-append, length-map}
-use Rattle.nif_names.specs.Tables.{held, stack_of}
-use Rattle.nif_names.proofs.TableLemmas.{stack-first, list_any-map}
+use Rattle.nif_names.specs.Marks.{IsMarked}
+use Rattle.nif_names.specs.Shapes.{Stack}
+use Rattle.nif_names.specs.Tables.{held, kinds, stack_of}
+use Rattle.nif_names.proofs.TableLemmas.{shapes-first, first-back, list_any-map}
 use Rattle.nif_names.proofs.tables.Names.push_first.Goals as goal
 
 items : Vec ℕ Global → List ℕ
@@ -25,9 +27,9 @@ invariant_of-self-in-Ok-insert c =
     let same = c.self.invariant in
     omega (arith, a, b, same)
 
-pub returns : goal.returns
+pub returns-clause-shapes : goal.returns-clause-shapes
 unfolding held
-returns c = λ other.
+returns-clause-shapes c = λ other.
     let i = c.self.inside in
     let keys = i.names.keys in
     let name = c.in-Ok-from_slice.name in
@@ -35,9 +37,24 @@ returns c = λ other.
     let grown = keys_after keys c.insert.new.self.keys name c.args.name.now c.in-Ok-from_slice.ensures.items none c.in-Ok-insert.ensures.keys in
     let names : map (λ k. k.items) c.insert.new.self.keys ≡ map (λ k. k.items) keys ++ c.args.name.now ∷ [] =
     ap (map (λ k. k.items)) grown ∙ map-append (λ k. k.items) keys (name ∷ []) ∙ ap (λ n. map (λ k. k.items) keys ++ n ∷ []) c.in-Ok-from_slice.ensures.items in
-    let stacks : c.push-2.new.self.items ≡ i.stacks.items ++ (c.args.shape ∷ []) ∷ [] =
-    c.in-Ok-push.ensures.items ∙ ap (λ s. i.stacks.items ++ s ∷ []) (c.in-Ok.ensures.ok ∙ ap (λ s. s ++ c.args.shape ∷ []) c.new-stack.ensures) in
-    ap (λ ns. stack_of other ns c.push-2.new.self.items) names
-    ∙ ap (stack_of other (map (λ k. k.items) keys ++ c.args.name.now ∷ [])) stacks
-    ∙ stack-first (λ (k : Vec ℕ Global). k.items) c.args.name.now c.args.shape other (map (λ k. k.items) keys) i.stacks.items none (length-map keys (λ (k : Vec ℕ Global). k.items) ∙ c.self.invariant)
-    ∙ ap (λ t. cond (bytes_eq other c.args.name.now) (stack_of other t.names t.stacks ++ c.args.shape ∷ []) (stack_of other t.names t.stacks)) c.self.view_is
+    ap (λ ns. (stack_of other ns c.push-2.new.self.items).shapes) names
+    ∙ ap (λ (ss : List Stack). (stack_of other (map (λ k. k.items) keys ++ c.args.name.now ∷ []) ss).shapes) c.in-Ok-push.ensures.items
+    ∙ shapes-first (λ (k : Vec ℕ Global). k.items) c.args.name.now c.push.new.self other (map (λ k. k.items) keys) i.stacks.items none (length-map keys (λ (k : Vec ℕ Global). k.items) ∙ c.self.invariant) c.args.shape
+    (c.in-Ok.ensures.ok ∙ ap (λ (s : Stack). s.shapes ++ c.args.shape ∷ []) c.new-stack.ensures)
+    ∙ ap (λ t. cond (bytes_eq other c.args.name.now) ((stack_of other t.names t.stacks).shapes ++ c.args.shape ∷ []) (stack_of other t.names t.stacks).shapes) c.self.view_is
+
+pub returns-clause-marks : goal.returns-clause-marks
+unfolding kinds
+returns-clause-marks c = λ other key inner is.
+    let i = c.self.inside in
+    let keys = i.names.keys in
+    let name = c.in-Ok-from_slice.name in
+    let none = ap (λ t. list_any (bytes_eq c.args.name.now) t.names) c.self.view_is ∙ c.requires in
+    let grown = keys_after keys c.insert.new.self.keys name c.args.name.now c.in-Ok-from_slice.ensures.items none c.in-Ok-insert.ensures.keys in
+    let names : map (λ k. k.items) c.insert.new.self.keys ≡ map (λ k. k.items) keys ++ c.args.name.now ∷ [] =
+    ap (map (λ k. k.items)) grown ∙ map-append (λ k. k.items) keys (name ∷ []) ∙ ap (λ n. map (λ k. k.items) keys ++ n ∷ []) c.in-Ok-from_slice.ensures.items in
+    subst (λ t. IsMarked (stack_of other t.names t.stacks).kinds key inner) c.self.view_is
+    (first-back (λ (k : Vec ℕ Global). k.items) c.args.name.now c.push.new.self other (map (λ k. k.items) keys) i.stacks.items none (length-map keys (λ (k : Vec ℕ Global). k.items) ∙ c.self.invariant)
+    (λ s. IsMarked s.kinds key inner) (λ m. subst (λ (s : Stack). IsMarked s.kinds key inner) c.new-stack.ensures (c.in-Ok.ensures.marks key inner m))
+    (subst (λ (ss : List Stack). IsMarked (stack_of other (map (λ k. k.items) keys ++ c.args.name.now ∷ []) ss).kinds key inner) c.in-Ok-push.ensures.items
+    (subst (λ ns. IsMarked (stack_of other ns c.push-2.new.self.items).kinds key inner) names is)))

@@ -1,0 +1,31 @@
+use Rattle.std.proofs.Common.{◌≡◌, Some, slice_get, ap, subst, sym, ◌∙◌, arith}
+use Rattle.std.specs.Option.{option_map}
+use Rattle.std.proofs.lemmas.Option.{slice_get-get_or, slice_get-map}
+use Rattle.std.proofs.lemmas.Slice.Eq.{bytes_eq-Decides}
+use Rattle.nif_names.specs.Marks.{Mark}
+use Rattle.nif_names.specs.Kept.{plain_mark}
+use Rattle.nif_names.proofs.marked.MarkedTypes.marked_by.Goals as goal
+
+pub returns-then-eq-clause-marked : goal.returns-then-eq-clause-marked
+returns-then-eq-clause-marked c = λ place kind lt there.
+    let i = c.self.inside in
+    let at = c.args.at in
+    let own = c.in-Some.mark.now in
+    let found = c.in-Some.ensures.lookup in
+    let kept : slice_get i.marks.items at ≡ Some own =
+    subst (λ l. slice_get l at ≡ Some own) c.deref.ensures.value (slice_get-get_or c.deref.result.now at own found.3.0 ∙ ap Some (sym (found.3.1 own))) in
+    let same : own.key.items ≡ c.args.key.now = sym c.as_slice.ensures.value ∙ (bytes_eq-Decides c.as_slice.result.now c.args.key.now).0 (sym c.if-eq.ensures) in
+    let before = c.still_there.ensures.before place lt in
+    let few = c.still_there.ensures.count in
+    record {
+      at = at;
+      count = own.count;
+      place = place;
+      since = before.0;
+      mark = subst (λ v. slice_get v.marks at ≡ Some (record { key = c.args.key.now; count = own.count })) c.self.view_is
+          (slice_get-map plain_mark i.marks.items at ∙ ap (option_map plain_mark) kept ∙ ap (λ k. Some (record { key = k; count = own.count })) same);
+      within = omega (arith, lt, few);
+      there = there;
+      put = before.1;
+      before = before.2;
+    }
