@@ -1,0 +1,5 @@
+use Rattle.nif_cells.proofs.Sizing.{tree-bound}
+use Rattle.nif_cells.proofs.laws.few_cells.Goals as goal
+
+pub returns : goal.returns
+returns c = tree-bound

@@ -1,0 +1,5 @@
+use Rattle.nif_cells.proofs.Sizing.{open-cells}
+use Rattle.nif_cells.proofs.laws.few_open.Goals as goal
+
+pub returns : goal.returns
+returns c = open-cells

@@ -1,0 +1,5 @@
+use Rattle.nif_cells.proofs.Open.{read-open}
+use Rattle.nif_cells.proofs.laws.open_is_known.Goals as goal
+
+pub returns : goal.returns
+returns c = read-open

@@ -1,0 +1,5 @@
+use Rattle.nif_cells.proofs.Places.{indexed}
+use Rattle.nif_cells.proofs.laws.references_are_indexed.Goals as goal
+
+pub returns : goal.returns
+returns c = indexed

@@ -1,0 +1,5 @@
+use Rattle.nif_cells.proofs.Known.{tree_known}
+use Rattle.nif_cells.proofs.laws.tree_is_known.Goals as goal
+
+pub returns : goal.returns
+returns c = λ n small cells says. tree_known cells n says small

@@ -1,0 +1,5 @@
+use Rattle.nif_cells.proofs.Walking.{met-tree}
+use Rattle.nif_cells.proofs.laws.walk_is_met.Goals as goal
+
+pub returns : goal.returns
+returns c = met-tree

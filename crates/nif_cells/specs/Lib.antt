@@ -1,0 +1,9 @@
+pub mod Building
+pub mod Walks
+pub mod Codes
+pub mod Encoding
+pub mod Reading
+pub mod Small
+pub mod Sizes
+pub mod Progress
+pub mod Laws
