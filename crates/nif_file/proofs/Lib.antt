@@ -3,3 +3,9 @@ pub mod FirstMany
 pub mod FirstFiles
 pub mod FirstAnswers
 pub mod FirstPuts
+pub mod Walks
+pub mod ReasonCases
+pub mod Pieces
+pub mod TypeSteps
+pub mod ValueSteps
+pub mod BlockSteps

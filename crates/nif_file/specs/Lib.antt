@@ -1,2 +1,9 @@
 pub mod First
 pub mod FirstReading
+pub mod Stops
+pub mod FirstLine
+pub mod Sizes
+pub mod Head
+pub mod Checks
+pub mod Files
+pub mod FileFails

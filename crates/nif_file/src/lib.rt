@@ -3,7 +3,9 @@
 //! its one value; what is written are the bytes of the value.
 #![tactic(auto)]
 
+pub mod faults;
 pub mod first;
 pub mod laws;
 
+pub use faults::FileFault;
 pub use first::{decode_first, encode_first};
