@@ -30,6 +30,17 @@ counted s n at next p = let e : 0 + (0 + n) ≡ n = omega arith in subst (λ (k 
 uncounted : (s : List ℕ) (n : ℕ) (at next : Point) → Passes s n at next → Passes s (0 + (0 + n)) at next
 uncounted s n at next p = let e : n ≡ 0 + (0 + n) = omega arith in subst (λ (k : ℕ). Passes s k at next) e p
 
+-- nothing is left
+abbrev pub End : Unit {0} → Point → Point → Type 0
+End u at next = (at.left ≡ []) × (next ≡ at)
+
+abbrev pub Footed : Schema → Env → (Node × Unit {0}) → Point → Point → Type 0
+Footed S E = Then (FooterReads S E) (λ footer. End)
+
+-- the blocks and the footer, and nothing more
+abbrev pub Body : Schema → Env → (List Block × (Node × Unit {0})) → Point → Point → Type 0
+Body S E = Then (BlocksRead S E 0 (number_of (codes "Num Blocks") E)) (λ blocks. Footed S E)
+
 module _ (spelled : Spelled) (one_value : OneValue) (S : Schema) (total : ℕ) (E : Env) (fits : Fits (file_context S E)) where
   value_part : (k kind : ℕ) (at mid : Point) → TypeReads S E k kind at mid
       → Sound (ValueReads S E kind) (Lifted (of_value total) (Fails S (block_context S E kind) most_depth (block_kind S E kind)))
@@ -79,8 +90,7 @@ module _ (spelled : Spelled) (one_value : OneValue) (S : Schema) (total : ℕ) (
       let value = z.1.1.0 in
       let last : Passes (text (order_in E) value) (nodes value) zero_mid next = subst (λ (p : Point). Passes (text (order_in E) value) (nodes value) zero_mid p) (sym sized.1) valued.1 in
       let rest = join (zero_word E) (text (order_in E) value) 0 (nodes value) r.0 zero_mid next r.2.1 last in
-      let all = join (name_where (index_word E k) (order_in E) (name_of S z.0)) (zero_word E ++ text (order_in E) value) 0 (0 + nodes value) at r.0 next typed.2 rest in
-      (
+      let all = join (name_where (index_word E k) (order_in E) (name_of S z.0)) (zero_word E ++ text (order_in E) value) 0 (0 + nodes value) at r.0 next typed.2 rest in (
         record { type = typed.0; index = refl; indexed = typed.1; value = valued.0; sized = sized.0 },
         counted (block_text S E k (block_of k z)) (nodes value) at next all,
       )
@@ -92,8 +102,7 @@ module _ (spelled : Spelled) (one_value : OneValue) (S : Schema) (total : ℕ) (
       let value = block.node in
       let all = uncounted (block_text S E k block) (nodes value) at next r.1 in
       let a = split name (zero_word E ++ text (order_in E) value) 0 (0 + nodes value) at next all in
-      let b = split (zero_word E) (text (order_in E) value) 0 (nodes value) a.0 next a.2 in
-      (
+      let b = split (zero_word E) (text (order_in E) value) 0 (nodes value) a.0 next a.2 in (
         (block.kind, (tt, (value, tt))),
         (λ i. record { kind = block.kind; index = is.index i; node = value }),
         (a.0, (is.type, is.indexed, a.1), (b.0, b.1, (next, (is.value, b.2), (is.sized, refl)))),
@@ -129,19 +138,10 @@ module _ (spelled : Spelled) (one_value : OneValue) (S : Schema) (total : ℕ) (
       by : find S (codes "Footer") ≡ Some number → footer_kind S E ≡ kind_of S (file_context S E) number None 0
       by found = rw found refl
 
-  abbrev pub End : Unit {0} → Point → Point → Type 0
-  End u at next = (at.left ≡ []) × (next ≡ at)
-
-  abbrev pub Footed : Node × Unit {0} → Point → Point → Type 0
-  Footed = Then (FooterReads S E) (λ footer. End)
-
-  abbrev pub Body : List Block × (Node × Unit {0}) → Point → Point → Type 0
-  Body = Then (BlocksRead S E 0 (number_of (codes "Num Blocks") E)) (λ blocks. Footed)
-
-  pub rest_sound : (number : ℕ) → IsRoot S (codes "Footer") number → number < length S → Sound (Unless (types_fault E) Body) (RestFails S total E)
+  pub rest_sound : (number : ℕ) → IsRoot S (codes "Footer") number → number < length S → Sound (Unless (types_fault E) (Body S E)) (RestFails S total E)
   rest_sound number root below =
       let n = number_of (codes "Num Blocks") E in
-      unless (types_fault E) Body (BodyFails S total E)
-      (λ fine. chain (BlocksRead S E 0 n) (BlocksFail S total E 0 n) (λ blocks. Footed) (λ blocks. FooterFails S total E) (blocks_sound n 0)
+      unless (types_fault E) (Body S E) (BodyFails S total E)
+      (λ fine. chain (BlocksRead S E 0 n) (BlocksFail S total E 0 n) (λ blocks. Footed S E) (λ blocks. FooterFails S total E) (blocks_sound n 0)
       (λ blocks at mid r. chain (FooterReads S E) (Lifted (of_value total) (Fails S (file_context S E) most_depth (footer_kind S E))) (λ footer. End) (λ footer. IsTrailing)
       (footer_value number root below) (λ footer at mid r. end_sound)))

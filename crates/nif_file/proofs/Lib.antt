@@ -9,3 +9,5 @@ pub mod Pieces
 pub mod TypeSteps
 pub mod ValueSteps
 pub mod BlockSteps
+pub mod HeadNumbers
+pub mod WholeFiles

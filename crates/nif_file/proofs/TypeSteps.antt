@@ -40,7 +40,7 @@ found_number S None kind e = absurd (cc)
 found_number S (Some n) kind e = ap (λ m. Some m) (found_by (has_block S n) n kind e)
 
 -- a declaration that is found has the name
-found_name : (S : Schema) (name : Name) (n : ℕ) → find S name ≡ Some n → name_of S n ≡ name
+pub found_name : (S : Schema) (name : Name) (n : ℕ) → find S name ≡ Some n → name_of S n ≡ name
 found_name [] name n e = absurd (cc)
 found_name (d ∷ S) name n e =
     let at = position-Some (λ x. bytes_eq name x.name) (d ∷ S) n d e in
@@ -212,7 +212,6 @@ type_sound S total E k = by (index_word E k)
             found : (o : Option Name) → entry ≡ o → ((kind : ℕ) × (next : Point) × R (Some word) kind at next) ⊎ ((s : Stop) × EntryRefused S E k word at s)
             found None e = inr (record { fault = file.TypeIndex k (type_place word); known = at.place }, inl (e, refl))
             found (Some name) e = named name e (name_decides S k at.place name)
-
     by None = record { stays = λ kind at next w r. within_behind (sized_string order (name_of S kind)) 0 at next w r.2; excludes = excludes; same = same; one = one; decides = decides }
       where
         order : Order

@@ -7,3 +7,4 @@ pub mod Head
 pub mod Checks
 pub mod Files
 pub mod FileFails
+pub mod FileLaws

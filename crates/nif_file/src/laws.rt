@@ -1,8 +1,11 @@
-//! Laws of the form of a file, over its definition alone.
+//! Laws of files, over the definitions alone.
 ghost use Rattle.std.specs.Prelude.{◌≡◌, List, ℕ};
 ghost use Rattle.nif_file.specs.First.{IsFirst, HasFault};
 ghost use Rattle.nif_value.specs.declared.first.FirstFile.{FirstFile};
 ghost use Rattle.nif_value.specs.declared.first.FirstFault.{FirstFault};
+ghost use Rattle.nif_schema.specs.Schema.{Schema, IsSchema};
+ghost use Rattle.nif_schema.specs.Roles.{Roles};
+ghost use Rattle.nif_file.specs.FileLaws.{FileOrFault, OneFile, OnePlace};
 
 /// No bytes have two values.
 pub fn one_value()
@@ -13,4 +16,12 @@ pub fn one_value()
 pub fn one_answer()
     ensures no_fault { (f : FirstFile) (fault : FirstFault) (bytes : List ℕ) → IsFirst f bytes → HasFault bytes fault → ⊥ }
     ensures one_fault { (a b : FirstFault) (bytes : List ℕ) → HasFault bytes a → HasFault bytes b → a ≡ b }
+{}
+
+/// By a schema that keeps the rules of roles, bytes spell one file, or they have one first fault, known at one place, and
+/// not both.
+pub fn one_file_or_fault()
+    ensures outcome { (S : Schema) → IsSchema S → Roles S → FileOrFault S }
+    ensures file { (S : Schema) → IsSchema S → Roles S → OneFile S }
+    ensures place { (S : Schema) → IsSchema S → Roles S → OnePlace S }
 {}
