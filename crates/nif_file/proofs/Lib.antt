@@ -11,3 +11,5 @@ pub mod ValueSteps
 pub mod BlockSteps
 pub mod HeadNumbers
 pub mod WholeFiles
+pub mod FileExamples
+pub mod HeaderSteps

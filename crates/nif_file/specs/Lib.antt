@@ -8,3 +8,4 @@ pub mod Checks
 pub mod Files
 pub mod FileFails
 pub mod FileLaws
+pub mod HeaderParts
