@@ -30,6 +30,16 @@ counted s n at next p = let e : 0 + (0 + n) ≡ n = omega arith in subst (λ (k 
 uncounted : (s : List ℕ) (n : ℕ) (at next : Point) → Passes s n at next → Passes s (0 + (0 + n)) at next
 uncounted s n at next p = let e : n ≡ 0 + (0 + n) = omega arith in subst (λ (k : ℕ). Passes s k at next) e p
 
+-- a block, from its parts
+pub block_read : (S : Schema) (E : Env) (k kind : ℕ) (value : Node) (at typed framed next : Point) → TypeReads S E k kind at typed → Passes (zero_word E) 0 typed framed
+    → ValueReads S E kind value framed next → HasSize E k value → BlockReads S E k (record { kind = kind; index = index_word E k; node = value }) at next
+block_read S E k kind value at typed framed next t z v sized =
+    let rest = join (zero_word E) (text (order_in E) value) 0 (nodes value) typed framed next z v.1 in
+    let all = join (name_where (index_word E k) (order_in E) (name_of S kind)) (zero_word E ++ text (order_in E) value) 0 (0 + nodes value) at typed next t.2 rest in (
+      record { type = t.0; index = refl; indexed = t.1; value = v.0; sized = sized },
+      counted (name_where (index_word E k) (order_in E) (name_of S kind) ++ (zero_word E ++ text (order_in E) value)) (nodes value) at next all,
+    )
+
 -- nothing is left
 abbrev pub End : Unit {0} → Point → Point → Type 0
 End u at next = (at.left ≡ []) × (next ≡ at)
@@ -82,18 +92,10 @@ module _ (spelled : Spelled) (one_value : OneValue) (S : Schema) (total : ℕ) (
 
   to_block : (k : ℕ) (z : Parts) (at next : Point) → Then (TypeReads S E k) (Framed k) z at next → BlockReads S E k (block_of k z) at next
   to_block k z at next r =
-      let typed = r.1 in
-      let zero_mid = r.2.0 in
-      let behind = r.2.2.0 in
-      let valued = r.2.2.1 in
-      let sized = r.2.2.2 in
       let value = z.1.1.0 in
-      let last : Passes (text (order_in E) value) (nodes value) zero_mid next = subst (λ (p : Point). Passes (text (order_in E) value) (nodes value) zero_mid p) (sym sized.1) valued.1 in
-      let rest = join (zero_word E) (text (order_in E) value) 0 (nodes value) r.0 zero_mid next r.2.1 last in
-      let all = join (name_where (index_word E k) (order_in E) (name_of S z.0)) (zero_word E ++ text (order_in E) value) 0 (0 + nodes value) at r.0 next typed.2 rest in (
-        record { type = typed.0; index = refl; indexed = typed.1; value = valued.0; sized = sized.0 },
-        counted (block_text S E k (block_of k z)) (nodes value) at next all,
-      )
+      let sized = r.2.2.2 in
+      let valued : ValueReads S E z.0 value r.2.0 next = subst (λ (p : Point). ValueReads S E z.0 value r.2.0 p) (sym sized.1) r.2.2.1 in
+      block_read S E k z.0 value at r.0 r.2.0 next r.1 r.2.1 valued sized.0
 
   from_block : (k : ℕ) (block : Block) (at next : Point) → BlockReads S E k block at next → (z : Parts) × (block ≡ block_of k z) × Then (TypeReads S E k) (Framed k) z at next
   from_block k block at next r =

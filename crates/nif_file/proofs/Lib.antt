@@ -13,3 +13,4 @@ pub mod HeadNumbers
 pub mod WholeFiles
 pub mod FileExamples
 pub mod HeaderSteps
+pub mod SizeLaws

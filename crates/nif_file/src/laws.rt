@@ -5,7 +5,7 @@ ghost use Rattle.nif_value.specs.declared.first.FirstFile.{FirstFile};
 ghost use Rattle.nif_value.specs.declared.first.FirstFault.{FirstFault};
 ghost use Rattle.nif_schema.specs.Schema.{Schema, IsSchema};
 ghost use Rattle.nif_schema.specs.Roles.{Roles};
-ghost use Rattle.nif_file.specs.FileLaws.{FileOrFault, OneFile, OnePlace};
+ghost use Rattle.nif_file.specs.FileLaws.{FileOrFault, OneFile, OnePlace, SizeIsLength};
 
 /// No bytes have two values.
 pub fn one_value()
@@ -24,4 +24,9 @@ pub fn one_file_or_fault()
     ensures outcome { (S : Schema) → IsSchema S → Roles S → FileOrFault S }
     ensures file { (S : Schema) → IsSchema S → Roles S → OneFile S }
     ensures place { (S : Schema) → IsSchema S → Roles S → OnePlace S }
+{}
+
+/// The size of a file, which is counted from its nodes and names alone, is the number of its bytes.
+pub fn size_is_length()
+    ensures { (S : Schema) → SizeIsLength S }
 {}
