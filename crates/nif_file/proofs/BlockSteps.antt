@@ -1,22 +1,21 @@
 -- Blocks, one behind another, and the footer behind them.
-use Rattle.std.proofs.Common.{◌≡◌, ℕ, zero, suc, ◌+◌, ◌^◌, ◌<◌, ◌≤◌, ◌⊎◌, inl, inr, Option, Some, None, List, [], ◌∷◌, ◌++◌, length, refl, sym, ◌∙◌, ap, subst, arith}
+use Rattle.std.proofs.Common.{◌≡◌, ℕ, zero, suc, ◌+◌, ◌<◌, inl, inr, Some, None, List, [], ◌∷◌, ◌++◌, length, refl, sym, ◌∙◌, subst, arith}
 use Rattle.std.specs.Prelude.{codes}
-use Rattle.nif_base.specs.Node.{Node, Members, text, nodes}
+use Rattle.nif_base.specs.Node.{Node, text, nodes}
 use Rattle.nif_base.specs.File.{Block}
-use Rattle.nif_schema.specs.Schema.{Schema, find, find_block}
+use Rattle.nif_schema.specs.Schema.{Schema, find}
 use Rattle.nif_schema.specs.Roles.{IsRoot}
-use Rattle.nif_layout.specs.Context.{Context}
 use Rattle.nif_layout.specs.Earlier.{Env}
 use Rattle.nif_layout.specs.Kind.{Kind, kind_of}
 use Rattle.nif_layout.specs.Shape.{Shape}
 use Rattle.nif_layout.specs.Fault.{Point, Passes, Reads}
 use Rattle.nif_layout.specs.Fails.{Lifted, Fails}
-use Rattle.nif_layout.specs.Laws.{Fits, IsOpenType, HasTemplate}
+use Rattle.nif_layout.specs.Laws.{Fits}
 use Rattle.nif_layout.proofs.Passing.{split, join}
 use Rattle.nif_file.specs.Stops.{Stop, of_value}
 use Rattle.nif_file.specs.Head.{file_context, block_context, order_in, number_of, index_word}
 use Rattle.nif_file.specs.Checks.{types_fault}
-use Rattle.nif_file.specs.Files.{most_depth, name_of, name_where, zero_word, block_text, block_kind, IsBlock, HasSize, footer_kind, IsFooter}
+use Rattle.nif_file.specs.Files.{most_depth, name_of, name_where, zero_word, block_text, block_kind, HasSize, footer_kind}
 use Rattle.nif_file.specs.FileFails.{TypeReads, TypeFails, ZeroFails, ValueReads, ValueFails, SizeFails, FrameFails, BlockFails, BlockReads, BlocksRead, BlocksFail, FooterReads, FooterFails, IsTrailing, BodyFails, RestFails}
 use Rattle.nif_file.proofs.Walks.{Within, Sound, Then, ThenFails, Unless, chain, unless, viewed, refailed}
 use Rattle.nif_file.proofs.Pieces.{zero_sound, size_sound, end_sound}

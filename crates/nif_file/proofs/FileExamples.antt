@@ -1,14 +1,13 @@
 -- The definitions at small files.
-use Rattle.std.proofs.Common.{◌≡◌, ◌≢◌, ℕ, zero, suc, ◌+◌, ◌*◌, ◌^◌, ◌<◌, ◌≤◌, inl, inr, Bool, true, false, ◌&&◌, not, Option, Some, None, List, [], ◌∷◌, ◌++◌, length, refl, sym, ◌∙◌, ap, lit<, lit≤, arith, ltb, ltb-true, eqb, true≢false}
+use Rattle.std.proofs.Common.{◌≡◌, ℕ, ◌^◌, ◌<◌, ◌≤◌, inl, inr, Bool, true, false, ◌&&◌, not, Some, None, List, [], ◌∷◌, ◌++◌, length, refl, sym, lit<, lit≤, ltb, ltb-true, eqb, true≢false}
 use Rattle.std.proofs.lemmas.Bool.{eqb-false}
 use Rattle.std.specs.Prelude.{codes}
-use Rattle.nif_base.specs.declared.orders.Order.TheVariants.{Little, Big}
 use Rattle.nif_base.specs.Node as node
 use Rattle.nif_base.specs.Node.{Node, Members, End, Here, Absent}
-use Rattle.nif_base.specs.File.{Block, File}
+use Rattle.nif_base.specs.File.{File}
 use Rattle.nif_base.specs.Version.{version_of, part_of, number_of}
-use Rattle.nif_schema.specs.Declaration.{Name, Formula, Read, Field, Declaration}
-use Rattle.nif_schema.specs.Expression.{Tree, Path}
+use Rattle.nif_schema.specs.Declaration.{Name, Read, Field}
+use Rattle.nif_schema.specs.Expression.{Path}
 use Rattle.nif_schema.specs.Schema.{Schema, parent}
 use Rattle.nif_schema.specs.Uses.{named, is_own_template}
 use Rattle.nif_schema.specs.Basic.{unsigned, always_little}
@@ -19,7 +18,7 @@ use Rattle.nif_layout.specs.Leaf.{AreInLine}
 use Rattle.nif_layout.specs.Fault.{Point, Passes}
 use Rattle.nif_file.specs.declared.faults.FileFault.TheVariants as file
 use Rattle.nif_file.specs.FirstLine.{line_version, behind_front}
-use Rattle.nif_file.specs.Files.{IsHeaderLine, IsFile, text_of, size_of, nodes_of}
+use Rattle.nif_file.specs.Files.{IsHeaderLine, IsFile, size_of, nodes_of}
 use Rattle.nif_file.specs.FileFails.{start_of, IsKnown}
 
 -- ---- the schema of plain files
@@ -90,8 +89,7 @@ other false h = refl
 in_line : (bs : List ℕ) → all_stand bs ≡ true → AreInLine bs
 in_line [] h = tt
 in_line (b ∷ bs) h =
-    let here = left (can_stand b) (all_stand bs) h in
-    (
+    let here = left (can_stand b) (all_stand bs) h in (
       ltb-true b 256 (left (ltb b 256) (not (eqb b 0x0A)) here),
       eqb-false b 0x0A (other (eqb b 0x0A) (right (ltb b 256) (not (eqb b 0x0A)) here)),
       in_line bs (right (can_stand b) (all_stand bs) h),

@@ -1,18 +1,14 @@
 -- From member to member of the header, and from block to block.
-use Rattle.std.proofs.Common.{◌≡◌, ℕ, zero, suc, ◌+◌, ◌<◌, ◌≤◌, ◌⊎◌, inl, inr, Bool, true, false, Option, Some, None, List, [], ◌∷◌, ◌++◌, length, refl, sym, ◌∙◌, ap, subst, subst₂, arith, append_assoc}
-use Rattle.nif_base.specs.declared.orders.Order.{Order}
-use Rattle.nif_base.specs.Node.{Node, Members, End, Here, Absent, text, nodes, nodes_in}
+use Rattle.std.proofs.Common.{◌≡◌, ℕ, zero, suc, ◌+◌, ◌<◌, ◌≤◌, inr, Bool, true, false, Option, Some, None, List, [], ◌∷◌, ◌++◌, refl, sym, ap, subst, subst₂, arith}
+use Rattle.nif_base.specs.Node.{Node, Members, End, text, nodes, nodes_in}
 use Rattle.nif_base.specs.File.{Block}
 use Rattle.nif_schema.specs.Declaration.{Field}
 use Rattle.nif_schema.specs.Schema.{Schema}
-use Rattle.nif_layout.specs.Context.{Context}
 use Rattle.nif_layout.specs.Earlier.{Env, behind, passed}
 use Rattle.nif_layout.specs.Present.{present}
-use Rattle.nif_layout.specs.Form.{form_of}
-use Rattle.nif_layout.specs.Fault.{Fault, Point, Passes, Reads, one_more, most_bytes, most_nodes}
-use Rattle.nif_layout.specs.Members.{Member}
-use Rattle.nif_layout.specs.Shape.{FormShape, LineShape}
-use Rattle.nif_layout.specs.Fails.{MemberFails, FormShapeFails, LineFails}
+use Rattle.nif_layout.specs.Fault.{Point, Passes, one_more, most_bytes, most_nodes}
+use Rattle.nif_layout.specs.Shape.{LineShape}
+use Rattle.nif_layout.specs.Fails.{LineFails}
 use Rattle.nif_layout.specs.Laws.{line_text}
 use Rattle.nif_layout.proofs.Passing.{join, count_out}
 use Rattle.nif_file.specs.Stops.{Stop, of_value}
@@ -79,8 +75,7 @@ module _ (S : Schema) where
       let later = part_whole gots fields (behind f (Some node) E) r.0 E' next here.2.within here.2.counted r.3 in
       let order = (header_context S E).order in
       let rest = with_members gots End in
-      let b : present S (header_context S E) 0 E f ≡ true = here.0 in
-      (
+      let b : present S (header_context S E) 0 E f ≡ true = here.0 in (
         rw b (node, rest, refl, here.1, (r.2, later.0)),
         join (text order node) (line_text (header_context S) fields (behind f (Some node) E) rest) (nodes node) (nodes_in rest) at r.0 next here.2 later.1,
         later.2,
@@ -91,8 +86,7 @@ module _ (S : Schema) where
       let more : PartReads S gots fields (behind f None E) (one_more at) [] E' next = subst (λ (p : Point). PartReads S gots fields (behind f None E) p [] E' next) here.2 r.3 in
       let room : at.nodes < most_nodes = here.1 in
       let later = part_whole gots fields (behind f None E) (one_more at) E' next place (omega (arith, room)) more in
-      let rest = with_members gots End in
-      (
+      let rest = with_members gots End in (
         rw b (rest, refl, (r.2, later.0)),
         count_out (line_text (header_context S) fields (behind f None E) rest) (nodes_in rest) at next later.1,
         later.2,

@@ -1,28 +1,19 @@
 -- The parts of a file that are no values: the type of a block, its zero word, its size, and the end.
-use Rattle.std.proofs.Common.{◌≡◌, ◌≢◌, ℕ, zero, suc, ◌+◌, ◌*◌, ◌^◌, ◌<◌, ◌≤◌, ◌⊎◌, inl, inr, Bool, true, false, Option, Some, None, IfSome, List, [], ◌∷◌, ◌++◌, length, take, drop, slice_get, refl, sym, ◌∙◌, ap, subst, arith, lit<, ltb, le-ltb, lt-ltb, ltb-true, ltb-false, length-append, true≢false, append_assoc, take-append-drop, length-take-le}
+use Rattle.std.proofs.Common.{◌≡◌, ◌≢◌, ℕ, ◌+◌, ◌⊎◌, inl, inr, Bool, true, false, Option, Some, None, IfSome, List, [], ◌∷◌, length, take, refl, sym, ◌∙◌, ap, subst, arith}
 use Rattle.std.proofs.lemmas.Bool.{cases_eq}
-use Rattle.std.specs.Bool.{Decides}
-use Rattle.nif_base.specs.declared.orders.Order.{Order}
-use Rattle.nif_base.specs.Node.{Node, text, number, low_first, is_little}
-use Rattle.nif_schema.specs.Declaration.{Name}
-use Rattle.nif_schema.specs.Schema.{Schema, find_block}
-use Rattle.nif_schema.specs.Reasons.{IsOpen, IsReason}
-use Rattle.nif_schema.specs.declared.faults.Closed.{Closed}
+use Rattle.nif_base.specs.Node.{Node, text, number, is_little}
 use Rattle.nif_layout.specs.Earlier.{Env}
-use Rattle.nif_layout.specs.Leaf.{AreBytes}
-use Rattle.nif_layout.specs.Fault.{Fault, Point, Passes, most_bytes, most_nodes}
+use Rattle.nif_layout.specs.Fault.{Point, Passes}
 use Rattle.nif_layout.specs.LeafFault.{shortage, number_at}
 use Rattle.nif_layout.proofs.Passing.{one_point}
-use Rattle.nif_layout.proofs.Bytes.{length_number, number_front, same_front}
-use Rattle.nif_layout.proofs.Leaves.{no_shortage, number_again, take_front}
+use Rattle.nif_layout.proofs.Leaves.{no_shortage}
 use Rattle.nif_layout.proofs.DecideLeaves.{Enough, enough, skip, passes_skip, number_taken}
 use Rattle.nif_file.specs.declared.faults.FileFault.TheVariants as file
 use Rattle.nif_file.specs.Stops.{Stop, of_value}
-use Rattle.nif_file.specs.Head.{order_in, version_in, type_names, index_word, type_place, stated_size}
-use Rattle.nif_file.specs.Files.{name_of, name_where, sized_string, has_zero_word, zero_where, zero_word, is_abstract, IsBlockType, IsIndexed, HasSize}
-use Rattle.nif_file.specs.FileFails.{PartFails, sized_needs, KindRefused, NameRefused, EntryRefused, NameFails, TypeFailsBy, TypeFails, TypeReads, ZeroFailsBy, ZeroFails, SizeFails, IsTrailing}
+use Rattle.nif_file.specs.Head.{order_in, version_in, stated_size}
+use Rattle.nif_file.specs.Files.{has_zero_word, zero_where, zero_word, HasSize}
+use Rattle.nif_file.specs.FileFails.{PartFails, ZeroFailsBy, ZeroFails, SizeFails, IsTrailing}
 use Rattle.nif_file.proofs.Walks.{Within, Sound, within_behind, none_some, some_same}
-use Rattle.nif_file.proofs.ReasonCases.{not_open, one_reason, open_or_closed}
 
 pub passes_none : (at : Point) → Within at → Passes [] 0 at at
 passes_none at w = record { here = refl; place = omega arith; nodes = omega arith; within = w.place; counted = w.nodes }

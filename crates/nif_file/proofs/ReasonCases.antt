@@ -1,9 +1,9 @@
 -- Each type is open, or it has one reason.
-use Rattle.std.proofs.Common.{◌≡◌, ℕ, zero, suc, ◌<◌, ◌≤◌, ◌⊎◌, inl, inr, Option, Some, None, List, [], ◌∷◌, ◌++◌, length, get_or, slice_get, Contains, refl, sym, ◌∙◌, ap, subst, arith}
+use Rattle.std.proofs.Common.{◌≡◌, ℕ, zero, suc, ◌<◌, ◌≤◌, ◌⊎◌, inl, inr, Option, Some, None, List, [], ◌∷◌, length, get_or, Contains, refl, sym, ◌∙◌, ap, subst, arith}
 use Rattle.std.proofs.lemmas.Bool.{cases_lt, cases_eq}
 use Rattle.std.proofs.lemmas.Option.{slice_get_past}
 use Rattle.std.proofs.lemmas.List.Elements.{Contains-append_cases, Contains-append_left, Contains-append_right}
-use Rattle.nif_schema.specs.Schema.{Schema, parent, fields_of}
+use Rattle.nif_schema.specs.Schema.{Schema, parent}
 use Rattle.nif_schema.specs.Uses.{uses, Reaches, Here, Further}
 use Rattle.nif_schema.specs.Reasons.{own_reason, ReachesClosed, IsOpen, IsReason, Open, Own, Uses}
 use Rattle.nif_schema.specs.declared.faults.Closed.{Closed}

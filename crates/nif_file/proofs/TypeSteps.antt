@@ -1,5 +1,5 @@
 -- The type of a block is read, or it fails.
-use Rattle.std.proofs.Common.{◌≡◌, ◌≢◌, ℕ, zero, suc, ◌+◌, ◌-◌, ◌^◌, ◌<◌, ◌≤◌, ◌⊎◌, inl, inr, Bool, true, false, cond, Option, Some, None, IfSome, option_and_then, List, [], ◌∷◌, ◌++◌, length, take, drop, get_or, slice_get, refl, sym, ◌∙◌, ap, subst, arith, lit≤, ltb, le-ltb, lt-ltb, ltb-true, ltb-false, length-append, true≢false, append_assoc, length-take-le, if◌then◌else◌}
+use Rattle.std.proofs.Common.{◌≡◌, ℕ, ◌+◌, ◌-◌, ◌^◌, ◌<◌, ◌≤◌, ◌⊎◌, inl, inr, Bool, true, false, Option, Some, None, IfSome, option_and_then, [], ◌∷◌, ◌++◌, length, take, drop, get_or, slice_get, refl, sym, ◌∙◌, ap, subst, arith, ltb, le-ltb, ltb-true, ltb-false, length-append, true≢false, append_assoc, length-take-le, if◌then◌else◌}
 use Rattle.std.proofs.Math.Seq.{take-add}
 use Rattle.std.proofs.lemmas.List.{length-drop}
 use Rattle.std.proofs.lemmas.List.Quantifiers.{position-Some}
@@ -9,13 +9,13 @@ use Rattle.std.specs.Str.{bytes_eq}
 use Rattle.std.specs.Option.{option_map_or}
 use Rattle.nif_base.specs.declared.orders.Order.{Order}
 use Rattle.nif_base.specs.Node.{number, is_little}
-use Rattle.nif_schema.specs.Declaration.{Name, Declaration}
+use Rattle.nif_schema.specs.Declaration.{Name}
 use Rattle.nif_schema.specs.Schema.{Schema, find, find_block, has_block}
 use Rattle.nif_schema.specs.Reasons.{IsOpen, IsReason}
 use Rattle.nif_schema.specs.declared.faults.Closed.{Closed}
 use Rattle.nif_layout.specs.Earlier.{Env}
-use Rattle.nif_layout.specs.Fault.{Fault, Point, Passes, most_bytes}
-use Rattle.nif_layout.specs.LeafFault.{shortage, number_at}
+use Rattle.nif_layout.specs.Fault.{Point, Passes, most_bytes}
+use Rattle.nif_layout.specs.LeafFault.{number_at}
 use Rattle.nif_layout.proofs.Passing.{one_point}
 use Rattle.nif_layout.proofs.Bytes.{length_number, number_front, same_front}
 use Rattle.nif_layout.proofs.Leaves.{number_again}
@@ -23,7 +23,7 @@ use Rattle.nif_layout.proofs.DecideLeaves.{Enough, enough, skip, passes_skip, nu
 use Rattle.nif_file.specs.declared.faults.FileFault.TheVariants as file
 use Rattle.nif_file.specs.Stops.{Stop, of_value}
 use Rattle.nif_file.specs.Head.{order_in, type_names, index_word, type_place}
-use Rattle.nif_file.specs.Files.{name_of, name_where, sized_string, is_abstract, IsBlockType, IsIndexed}
+use Rattle.nif_file.specs.Files.{name_of, name_where, sized_string, is_abstract, IsBlockType}
 use Rattle.nif_file.specs.FileFails.{PartFails, sized_needs, KindRefused, NameRefused, EntryRefused, NameFails, TypeFailsBy, TypeFails, TypeReads}
 use Rattle.nif_file.proofs.Walks.{Within, Sound, within_behind, none_some, some_same}
 use Rattle.nif_file.proofs.Pieces.{passes_none, part_excludes, part_one}

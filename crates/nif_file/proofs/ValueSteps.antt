@@ -1,24 +1,23 @@
 -- Values and lines of fields as parts of a file, by the laws of values.
-use Rattle.std.proofs.Common.{◌≡◌, ℕ, zero, suc, ◌+◌, ◌^◌, ◌<◌, ◌≤◌, ◌⊎◌, inl, inr, Bool, true, false, ◌&&◌, Option, Some, None, option_and_then, List, [], ◌∷◌, ◌++◌, length, drop, slice_get, if◌then◌else◌, refl, sym, ◌∙◌, ap, subst, arith, lit<}
+use Rattle.std.proofs.Common.{◌≡◌, ℕ, zero, suc, ◌+◌, ◌<◌, ◌≤◌, ◌⊎◌, inl, inr, Bool, true, false, Option, Some, None, option_and_then, List, [], ◌∷◌, ◌++◌, length, drop, slice_get, if◌then◌else◌, refl, sym, ◌∙◌, ap, subst, arith, lit<}
 use Rattle.std.specs.Option.{option_map_or}
 use Rattle.std.proofs.lemmas.Option.{slice_get_within}
-use Rattle.nif_base.specs.Node.{Node, Members, text, nodes, nodes_in}
+use Rattle.nif_base.specs.Node.{text, nodes, nodes_in}
 use Rattle.nif_schema.specs.Declaration.{Field, Declaration, is_block}
 use Rattle.nif_schema.specs.Schema.{Schema, find, find_block, has_block, line}
 use Rattle.nif_schema.specs.Uses.{is_generic, is_struct}
-use Rattle.nif_schema.specs.Reasons.{IsOpen}
 use Rattle.nif_schema.specs.declared.decls.What.{What}
 use Rattle.nif_schema.specs.declared.decls.What.TheVariants.{Basic, Stored, Struct, Block}
 use Rattle.nif_layout.specs.Context.{Context}
 use Rattle.nif_layout.specs.Earlier.{Env}
-use Rattle.nif_layout.specs.Kind.{Kind, kind_of}
+use Rattle.nif_layout.specs.Kind.{kind_of}
 use Rattle.nif_layout.specs.Form.{Form, One}
 use Rattle.nif_layout.specs.Leaf.{AreBytes}
 use Rattle.nif_layout.specs.Fault.{Fault, Point, Passes, Reads, most_bytes, most_nodes}
 use Rattle.nif_layout.specs.Members.{Check}
 use Rattle.nif_layout.specs.Shape.{Shape, LineShape}
 use Rattle.nif_layout.specs.Fails.{Lifted, Fails, LineFails}
-use Rattle.nif_layout.specs.Laws.{Fits, AllFit, IsOpenType, HasTemplate, OneForm, OneLine, ExactlyOne, at_place, IsPlace, Stands, NodeStands, SpelledOrFails, LineSpelledOrFails, line_text}
+use Rattle.nif_layout.specs.Laws.{Fits, AllFit, IsOpenType, HasTemplate, OneForm, OneLine, ExactlyOne, at_place, IsPlace, Stands, SpelledOrFails, LineSpelledOrFails, line_text}
 use Rattle.nif_layout.proofs.Passing.{one_point}
 use Rattle.nif_file.specs.Stops.{Stop, of_value}
 use Rattle.nif_file.proofs.Walks.{Within, Sound, within_behind}

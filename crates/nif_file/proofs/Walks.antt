@@ -1,5 +1,5 @@
 -- Parts of a file, one behind another: each is read from one point to the next, or it fails.
-use Rattle.std.proofs.Common.{◌≡◌, ℕ, ◌+◌, ◌≤◌, ◌⊎◌, inl, inr, Option, Some, None, List, ◌++◌, refl, sym, ◌∙◌, ap, subst, subst₂}
+use Rattle.std.proofs.Common.{◌≡◌, ℕ, ◌≤◌, ◌⊎◌, inl, inr, Option, Some, None, List, ◌++◌, refl, sym, ◌∙◌, ap, subst, subst₂}
 use Rattle.nif_layout.specs.Leaf.{AreBytes}
 use Rattle.nif_layout.specs.Fault.{Point, Passes, most_bytes, most_nodes}
 use Rattle.nif_layout.proofs.Decide.{bytes_behind}

@@ -1,11 +1,11 @@
 -- A whole file, part by part, and as one text.
-use Rattle.std.proofs.Common.{◌≡◌, ℕ, zero, suc, ◌+◌, ◌^◌, ◌<◌, ◌≤◌, ◌⊎◌, inl, inr, Option, Some, None, List, [], ◌∷◌, ◌++◌, length, refl, sym, ◌∙◌, ap, subst, arith, append-nil, lit≤}
+use Rattle.std.proofs.Common.{◌≡◌, ℕ, zero, suc, ◌+◌, ◌≤◌, ◌⊎◌, inl, inr, None, List, [], ◌∷◌, ◌++◌, length, refl, sym, ◌∙◌, ap, subst, arith, append-nil, lit≤}
 use Rattle.std.specs.Prelude.{codes}
 use Rattle.nif_base.specs.Node as node
 use Rattle.nif_base.specs.Node.{Node, Members, text, nodes, nodes_in}
 use Rattle.nif_base.specs.File.{Block, File}
 use Rattle.nif_schema.specs.Declaration.{Field}
-use Rattle.nif_schema.specs.Schema.{Schema, IsSchema, find, line}
+use Rattle.nif_schema.specs.Schema.{Schema, IsSchema, line}
 use Rattle.nif_schema.specs.Roles.{Roles, IsRoot}
 use Rattle.nif_layout.specs.Earlier.{Env}
 use Rattle.nif_layout.specs.Leaf.{AreBytes}
@@ -14,12 +14,11 @@ use Rattle.nif_layout.specs.Shape.{LineShape}
 use Rattle.nif_layout.specs.Fails.{LineFails}
 use Rattle.nif_layout.specs.Laws.{AllFit, ExactlyOne, line_text}
 use Rattle.nif_layout.proofs.Passing.{split, join}
-use Rattle.nif_file.specs.declared.faults.FileFault.{FileFault}
 use Rattle.nif_file.specs.Stops.{Stop, of_value}
 use Rattle.nif_file.specs.Head.{header_context, order_in, number_of}
 use Rattle.nif_file.specs.Checks.{header_check, types_fault}
-use Rattle.nif_file.specs.Files.{header_line, head_of, header_text, members_of, head_in, block_text, blocks_text, block_nodes, AreBlocks, text_of, nodes_of, IsHeader, IsFile}
-use Rattle.nif_file.specs.FileFails.{HeaderReads, HeaderFails, BlocksRead, RestFails, start_of, FileStops, FileFails, IsKnown}
+use Rattle.nif_file.specs.Files.{header_line, head_of, header_text, block_text, blocks_text, block_nodes, AreBlocks, text_of, IsHeader, IsFile}
+use Rattle.nif_file.specs.FileFails.{HeaderReads, HeaderFails, BlocksRead, RestFails, start_of, FileStops, FileFails}
 use Rattle.nif_file.specs.FileLaws.{FileOrFault, OneFile, OnePlace}
 use Rattle.nif_file.proofs.Walks.{Within, Sound, Then, ThenFails, Unless, chain}
 use Rattle.nif_file.proofs.ValueSteps.{Spelled, OneValue, LineSpelled, OneOfLine, line_sound, no_template}

@@ -2,8 +2,7 @@
 use Rattle.std.specs.Prelude.{ℕ, ◌+◌, ◌^◌, Bool, false, not, ◌&&◌, ◌||◌, nat_eq, nat_le, nat_lt, codes, bytes_eq, List, [], ◌∷◌, length, None, Some, is_some, is_none, if◌then◌else◌}
 use Rattle.std.specs.declared.option.Option.{Option}
 use Rattle.std.specs.Option.{option_map_or}
-use Rattle.nif_base.specs.Node.{Node}
-use Rattle.nif_schema.specs.Declaration.{Name, Field}
+use Rattle.nif_schema.specs.Declaration.{Name}
 use Rattle.nif_schema.specs.Schema.{Schema}
 use Rattle.nif_schema.specs.Roles.{lowest, highest}
 use Rattle.nif_layout.specs.Earlier.{Env, behind}

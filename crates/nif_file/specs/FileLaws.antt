@@ -1,11 +1,11 @@
 -- The laws of files.
-use Rattle.std.specs.Prelude.{ℕ, ◌≡◌, ◌≤◌, List, length}
+use Rattle.std.specs.Prelude.{ℕ, ◌≡◌, List, length}
 use Rattle.nif_base.specs.File.{File}
 use Rattle.nif_schema.specs.Schema.{Schema}
 use Rattle.nif_layout.specs.Leaf.{AreBytes}
 use Rattle.nif_layout.specs.Laws.{ExactlyOne}
 use Rattle.nif_file.specs.declared.faults.FileFault.{FileFault}
-use Rattle.nif_file.specs.Files.{IsFile, text_of, size_of}
+use Rattle.nif_file.specs.Files.{IsFile, size_of}
 use Rattle.nif_file.specs.FileFails.{FileFails, IsKnown}
 
 -- ---- one file or one fault: bytes spell a file, or they have a first fault, and not both

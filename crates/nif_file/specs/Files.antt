@@ -1,5 +1,5 @@
 -- Which files there are by a schema, and their bytes: a header, blocks, a footer, and nothing more.
-use Rattle.std.specs.Prelude.{ℕ, ◌≡◌, ◌≢◌, ◌+◌, ◌≤◌, Bool, true, false, ◌&&◌, nat_le, codes, List, [], ◌∷◌, ◌++◌, length, None, Some, IfSome, slice_get, if◌then◌else◌}
+use Rattle.std.specs.Prelude.{ℕ, ◌≡◌, ◌+◌, ◌≤◌, Bool, true, false, ◌&&◌, nat_le, codes, List, [], ◌∷◌, ◌++◌, length, None, Some, IfSome, slice_get, if◌then◌else◌}
 use Rattle.std.specs.declared.option.Option.{Option}
 use Rattle.std.specs.Option.{option_map_or}
 use Rattle.nif_base.specs.declared.orders.Order.{Order}
@@ -12,7 +12,6 @@ use Rattle.nif_schema.specs.Uses.{what_at}
 use Rattle.nif_schema.specs.Reasons.{IsOpen}
 use Rattle.nif_schema.specs.declared.decls.What.{What}
 use Rattle.nif_schema.specs.declared.decls.What.TheVariants as what
-use Rattle.nif_layout.specs.Context.{Context}
 use Rattle.nif_layout.specs.Earlier.{Env, passed}
 use Rattle.nif_layout.specs.Kind.{Kind, Unknown, kind_of}
 use Rattle.nif_layout.specs.Shape.{Shape, LineShape}

@@ -1,5 +1,5 @@
 -- What the members of the header say of the file. The last present member of a name counts; an absent number is 0.
-use Rattle.std.specs.Prelude.{ℕ, ◌%◌, ◌^◌, Bool, false, codes, List, [], ◌∷◌, None, Some, ◌==◌, if◌then◌else◌, unwrap_or}
+use Rattle.std.specs.Prelude.{ℕ, ◌%◌, ◌^◌, false, codes, List, [], ◌∷◌, None, Some, ◌==◌, if◌then◌else◌, unwrap_or}
 use Rattle.std.specs.declared.option.Option.{Option}
 use Rattle.std.specs.Option.{option_map, option_map_or}
 use Rattle.nif_base.specs.declared.orders.Order.{Order}

@@ -1,18 +1,14 @@
 -- The first members of a line, read one behind another. A reader goes so from member to member.
-use Rattle.std.specs.Prelude.{ℕ, ◌≡◌, ◌<◌, Bool, true, false, None, Some, List, [], ◌∷◌}
+use Rattle.std.specs.Prelude.{◌≡◌, ◌<◌, true, false, None, Some, List, [], ◌∷◌}
 use Rattle.std.specs.declared.option.Option.{Option}
-use Rattle.nif_base.specs.declared.orders.Order.{Order}
 use Rattle.nif_base.specs.Node.{Node, Members, Here, Absent}
 use Rattle.nif_schema.specs.Declaration.{Field}
 use Rattle.nif_schema.specs.Schema.{Schema}
-use Rattle.nif_layout.specs.Context.{Context}
 use Rattle.nif_layout.specs.Earlier.{Env, behind}
 use Rattle.nif_layout.specs.Present.{present}
 use Rattle.nif_layout.specs.Form.{form_of}
 use Rattle.nif_layout.specs.Fault.{Point, Reads, one_more, most_nodes}
-use Rattle.nif_layout.specs.Members.{Check}
 use Rattle.nif_layout.specs.Shape.{FormShape}
-use Rattle.nif_file.specs.Stops.{Stop}
 use Rattle.nif_file.specs.Head.{header_context}
 use Rattle.nif_file.specs.Checks.{header_check}
 

@@ -1,5 +1,5 @@
 -- How many bytes spell a node, whatever the order of the file.
-use Rattle.std.specs.Prelude.{ℕ, ◌+◌, List, [], ◌∷◌, length}
+use Rattle.std.specs.Prelude.{ℕ, ◌+◌, [], ◌∷◌, length}
 use Rattle.std.specs.Option.{option_map_or}
 use Rattle.nif_base.specs.Node.{Node, Members, Num, Line, Ref, Text, Bytes, Group, Row, End, Here, Absent}
 use Rattle.nif_layout.specs.Earlier.{Env}
