@@ -14,3 +14,4 @@ pub mod WholeFiles
 pub mod FileExamples
 pub mod HeaderSteps
 pub mod SizeLaws
+pub mod KnownValues

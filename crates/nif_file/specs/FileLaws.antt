@@ -1,5 +1,5 @@
 -- The laws of files.
-use Rattle.std.specs.Prelude.{ℕ, ◌≡◌, List, length}
+use Rattle.std.specs.Prelude.{ℕ, ◌≡◌, ◌≤◌, List, length}
 use Rattle.nif_base.specs.File.{File}
 use Rattle.nif_schema.specs.Schema.{Schema}
 use Rattle.nif_layout.specs.Leaf.{AreBytes}
@@ -25,3 +25,8 @@ OnePlace S = (bytes : List ℕ) → AreBytes bytes → (fault : FileFault) (j k 
 
 abbrev pub SizeIsLength : Schema → Type 0
 SizeIsLength S = (F : File) (bytes : List ℕ) → IsFile S F bytes → size_of S F ≡ length bytes
+
+-- ---- no fault is known behind the last byte
+
+abbrev pub KnownWithin : Schema → Type 0
+KnownWithin S = (bytes : List ℕ) (fault : FileFault) (known : ℕ) → IsKnown S bytes fault known → known ≤ length bytes
