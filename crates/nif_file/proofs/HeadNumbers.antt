@@ -16,8 +16,8 @@ use Rattle.nif_schema.specs.declared.decls.What.{What}
 use Rattle.nif_schema.specs.declared.decls.What.TheVariants.{Basic, Stored, Struct, Block}
 use Rattle.nif_layout.specs.Context.{Context}
 use Rattle.nif_layout.specs.Earlier.{Env, behind, last_present, passed}
-use Rattle.nif_layout.specs.Kind.{Kind, Number, Unknown, kind_of}
-use Rattle.nif_layout.specs.Form.{Form, One, form_of, field_kind}
+use Rattle.nif_layout.specs.Kind.{Kind, Number, Unknown, kind_of, kind_of_leaf}
+use Rattle.nif_layout.specs.Form.{Form, One, form_of, field_kind, replaced}
 use Rattle.nif_layout.specs.Leaf.{IsLeaf}
 use Rattle.nif_layout.specs.PathValue.{number_in}
 use Rattle.nif_layout.specs.Members.{Member, Check, Fields}
@@ -113,11 +113,11 @@ at_most p [] h = refl
 at_most p (g ∷ []) h = h
 at_most p (g ∷ k ∷ fields) h = h
 
-left : (a b : Bool) → (a && b) ≡ true → a ≡ true
+pub left : (a b : Bool) → (a && b) ≡ true → a ≡ true
 left true b h = refl
 left false b h = h
 
-right : (a b : Bool) → (a && b) ≡ true → b ≡ true
+pub right : (a b : Bool) → (a && b) ≡ true → b ≡ true
 right true b h = h
 right false b h = absurd (true≢false (sym h))
 
@@ -208,16 +208,32 @@ of_basic S name f h =
 single_form : (S : Schema) (C : Context) (E : Env) (f : Field) → f.length ≡ None → form_of S C None 0 E f ≡ One (field_kind S C None 0 E f)
 single_form S C E f none = rw none refl
 
-number_kind : (S : Schema) (C : Context) (n : ℕ) (template : Option ℕ) (arg : ℕ) (d : Declaration) (signed little float : Bool) → slice_get S n ≡ Some d → d.what ≡ Basic (leaf.Num 4 signed little float)
-    → kind_of S C n template arg ≡ Number 4 little
-number_kind S C n template arg d signed little float at what = rw (at, what) refl
+own_kind : (S : Schema) (C : Context) (n : ℕ) (template : Option ℕ) (arg : ℕ) (d : Declaration) (own : Leaf) → slice_get S n ≡ Some d → d.what ≡ Basic own
+    → kind_of S C n template arg ≡ kind_of_leaf C template own
+own_kind S C n template arg d own at what = rw (at, what) refl
 
-looked_up : (S : Schema) (C : Context) (o : Option ℕ) (b : Bool) (K : ℕ → Kind) (n : ℕ) (little : Bool) (value : Node) → o ≡ Some n → K n ≡ Number 4 little
-    → Shape S C 63 (option_map_or K (if b then None else o) Unknown) value → IsLeaf C (Number 4 little) value
-looked_up S C o true K n little value found kind h = absurd h
-looked_up S C o false K n little value found kind h =
-    let e : option_map_or K o Unknown ≡ Number 4 little = ap (λ o. option_map_or K o Unknown) found ∙ kind in
+looked_up : (S : Schema) (C : Context) (o : Option ℕ) (b : Bool) (K : ℕ → Kind) (n : ℕ) (kind : Kind) (value : Node) → o ≡ Some n → K n ≡ kind
+    → Shape S C 63 (option_map_or K (if b then None else o) Unknown) value → Shape S C 63 kind value
+looked_up S C o true K n kind value found is h = absurd h
+looked_up S C o false K n kind value found is h =
+    let e : option_map_or K o Unknown ≡ kind = ap (λ o. option_map_or K o Unknown) found ∙ is in
     subst (λ (k : Kind). Shape S C 63 k value) e h
+
+-- what the value of a field of a basic is
+pub basic_value : (S : Schema) → IsSchema S → (C : Context) (E : Env) (f : Field) (name : Name) (wanted : Leaf) (value : Node)
+    → is_of_basic S name f ≡ true → f.length ≡ None → listed_leaf name ≡ Some wanted → FormShape S C 63 (form_of S C None 0 E f) value
+    → Shape S C 63 (kind_of_leaf C (option_and_then (replaced S None) f.template) wanted) value
+basic_value S is C E f name wanted value basic single listed h =
+    let b = of_basic S name f basic in
+    let r = basic_by S (find S name) b.1 in
+    let n = r.0 in
+    let d = r.1 in
+    let found : find S f.kind ≡ Some n = ap (find S) b.0 ∙ r.3 in
+    let has : listed_leaf d.name ≡ Some wanted = ap listed_leaf (found_declared S name n d r.3 r.4) ∙ listed in
+    let own : r.2 ≡ wanted = own_leaf S is n d r.2 wanted r.4 r.5 has in
+    let one : Shape S C 63 (field_kind S C None 0 E f) value = subst (λ (form : Form). FormShape S C 63 form value) (single_form S C E f single) h in
+    looked_up S C (find S f.kind) (is_own_template f.kind) (λ number. kind_of S C number _ _) n (kind_of_leaf C (option_and_then (replaced S None) f.template) wanted) value found
+    (own_kind S C n _ _ d wanted r.4 (r.5 ∙ ap (λ l. Basic l) own)) one
 
 leaf_number : (C : Context) (little : Bool) (value : Node) → IsLeaf C (Number 4 little) value → number_in false value < 2 ^ 32
 leaf_number C little value h =
@@ -228,16 +244,7 @@ leaf_number C little value h =
 pub basic_number : (S : Schema) → IsSchema S → (C : Context) (E : Env) (f : Field) (name : Name) (signed little float : Bool) (value : Node)
     → is_of_basic S name f ≡ true → f.length ≡ None → listed_leaf name ≡ Some (leaf.Num 4 signed little float) → FormShape S C 63 (form_of S C None 0 E f) value → number_in false value < 2 ^ 32
 basic_number S is C E f name signed little float value basic single listed h =
-    let b = of_basic S name f basic in
-    let r = basic_by S (find S name) b.1 in
-    let n = r.0 in
-    let d = r.1 in
-    let found : find S f.kind ≡ Some n = ap (find S) b.0 ∙ r.3 in
-    let wanted : listed_leaf d.name ≡ Some (leaf.Num 4 signed little float) = ap listed_leaf (found_declared S name n d r.3 r.4) ∙ listed in
-    let own : r.2 ≡ leaf.Num 4 signed little float = own_leaf S is n d r.2 (leaf.Num 4 signed little float) r.4 r.5 wanted in
-    let one : Shape S C 63 (field_kind S C None 0 E f) value = subst (λ (form : Form). FormShape S C 63 form value) (single_form S C E f single) h in
-    leaf_number C little value (looked_up S C (find S f.kind) (is_own_template f.kind) (λ number. kind_of S C number _ _) n little value found
-    (number_kind S C n _ _ d signed little float r.4 (r.5 ∙ ap Basic own)) one)
+    leaf_number C little value (basic_value S is C E f name (leaf.Num 4 signed little float) value basic single listed h)
 
 -- ---- the header
 

@@ -15,3 +15,4 @@ pub mod FileExamples
 pub mod HeaderSteps
 pub mod SizeLaws
 pub mod KnownValues
+pub mod KnownFiles

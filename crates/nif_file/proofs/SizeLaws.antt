@@ -35,7 +35,7 @@ mutual
   length_texts order (Absent rest) = length_texts order rest
 
 -- the members of a line, in whatever orders
-line_length : {Why : Type 0} (order : Env → Order) (here : Env → Field → Bool) (V : Env → Field → Node → Type 0) (check : Check Why) (fields : List Field) (E : Env) (members : Members)
+pub line_length : {Why : Type 0} (order : Env → Order) (here : Env → Field → Bool) (V : Env → Field → Node → Type 0) (check : Check Why) (fields : List Field) (E : Env) (members : Members)
     → Fields here V check fields E members → length (fields_text order fields E members) ≡ size_in members
 line_length order here V check [] E members h = sym (ap size_in h)
 line_length {Why} order here V check (f ∷ fields) E members h = by (here E f) members h (λ got rest k. line_length order here V check fields (behind f got E) rest k)

@@ -5,7 +5,7 @@ ghost use Rattle.nif_value.specs.declared.first.FirstFile.{FirstFile};
 ghost use Rattle.nif_value.specs.declared.first.FirstFault.{FirstFault};
 ghost use Rattle.nif_schema.specs.Schema.{Schema, IsSchema};
 ghost use Rattle.nif_schema.specs.Roles.{Roles};
-ghost use Rattle.nif_file.specs.FileLaws.{FileOrFault, OneFile, OnePlace, SizeIsLength};
+ghost use Rattle.nif_file.specs.FileLaws.{FileOrFault, KnownWithin, OneFile, OnePlace, SizeIsLength};
 
 /// No bytes have two values.
 pub fn one_value()
@@ -18,12 +18,13 @@ pub fn one_answer()
     ensures one_fault { (a b : FirstFault) (bytes : List ℕ) → HasFault bytes a → HasFault bytes b → a ≡ b }
 {}
 
-/// By a schema that keeps the rules of roles, bytes spell one file, or they have one first fault, known at one place, and
-/// not both.
+/// By a schema that keeps the rules of roles, bytes spell one file, or they have one first fault, known at one place that
+/// lies within them, and not both.
 pub fn one_file_or_fault()
     ensures outcome { (S : Schema) → IsSchema S → Roles S → FileOrFault S }
     ensures file { (S : Schema) → IsSchema S → Roles S → OneFile S }
     ensures place { (S : Schema) → IsSchema S → Roles S → OnePlace S }
+    ensures within { (S : Schema) → IsSchema S → Roles S → KnownWithin S }
 {}
 
 /// The size of a file, which is counted from its nodes and names alone, is the number of its bytes.
