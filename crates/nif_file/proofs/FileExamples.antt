@@ -18,7 +18,7 @@ use Rattle.nif_layout.specs.Leaf.{AreInLine}
 use Rattle.nif_layout.specs.Fault.{Point, Passes}
 use Rattle.nif_file.specs.declared.faults.FileFault.TheVariants as file
 use Rattle.nif_file.specs.FirstLine.{line_version, behind_front}
-use Rattle.nif_file.specs.Files.{IsHeaderLine, IsFile, size_of, nodes_of}
+use Rattle.nif_file.specs.Files.{has_zero_word, IsHeaderLine, IsFile, size_of, nodes_of}
 use Rattle.nif_file.specs.FileFails.{start_of, IsKnown}
 
 -- ---- the schema of plain files
@@ -287,3 +287,159 @@ seven_is opens = record {
 seven_numbers : (nodes_of seven ≡ 10) × (size_of plain seven ≡ 75) × (length seven_bytes ≡ 75)
 unfolding parent line_version behind_front version_of part_of number_of
 seven_numbers = (refl, refl, refl)
+
+-- ---- an indexed file, whose numbers are big
+
+abbrev several : Name → Name → Name → Field
+several name kind count = record (field name kind) { length = Some (Read (Path (count ∷ []))) }
+
+abbrev indexed : Schema
+indexed =
+    record { name = codes "ulittle32"; what = what.Basic (always_little 4); fields = [] }
+    ∷ record { name = codes "uint"; what = what.Basic (unsigned 4); fields = [] }
+    ∷ record { name = codes "ushort"; what = what.Basic (unsigned 2); fields = [] }
+    ∷ record { name = codes "BlockTypeIndex"; what = what.Basic (unsigned 2); fields = [] }
+    ∷ record { name = codes "byte"; what = what.Basic (unsigned 1); fields = [] }
+    ∷ record { name = codes "char"; what = what.Basic (unsigned 1); fields = [] }
+    ∷ record { name = codes "HeaderString"; what = what.Basic leaf.Line; fields = [] }
+    ∷ record { name = codes "FileVersion"; what = what.Basic (always_little 4); fields = [] }
+    ∷ record {
+      name = codes "SizedString";
+      what = what.Struct;
+      fields = field (codes "Length") (codes "uint") ∷ several (codes "Value") (codes "char") (codes "Length") ∷ [];
+    }
+    ∷ record {
+      name = codes "Header";
+      what = what.Struct;
+      fields =
+          field (codes "Header String") (codes "HeaderString")
+          ∷ field (codes "Version") (codes "FileVersion")
+          ∷ field (codes "Endian Type") (codes "byte")
+          ∷ field (codes "Num Blocks") (codes "ulittle32")
+          ∷ field (codes "Num Block Types") (codes "ushort")
+          ∷ several (codes "Block Types") (codes "SizedString") (codes "Num Block Types")
+          ∷ several (codes "Block Type Index") (codes "BlockTypeIndex") (codes "Num Blocks")
+          ∷ several (codes "Block Size") (codes "uint") (codes "Num Blocks")
+          ∷ [];
+    }
+    ∷ record { name = codes "Footer"; what = what.Struct; fields = field (codes "Num Roots") (codes "uint") ∷ [] }
+    ∷ record { name = codes "A"; what = what.Block None false; fields = field (codes "Value") (codes "uint") ∷ [] }
+    ∷ []
+
+abbrev late_line : List ℕ
+late_line = codes "Gamebryo File Format, Version 20.2.0.7"
+
+abbrev types : Members
+types = Here (node.Group (Here (node.Num 4 false 1) (Here (node.Bytes (codes "A")) End))) End
+
+abbrev late_head : Members
+late_head =
+    Here (node.Line late_line) (Here (node.Num 4 true 0x14020007) (Here (node.Num 1 false 0) (Here (node.Num 4 true 1) (Here (node.Num 2 false 1)
+    (Here (node.Row types) (Here (node.Row (Here (node.Num 2 false 0x8000) End)) (Here (node.Row (Here (node.Num 4 false 4) End)) End)))))))
+
+abbrev big : File
+big = record { header = node.Group late_head; blocks = record { kind = 11; index = Some 0x8000; node = node.Group (Here (node.Num 4 false 7) End) } ∷ []; footer = node.Group (Here (node.Num 4 false 0) End) }
+
+abbrev big_bytes : List ℕ
+big_bytes =
+    late_line ++ 0x0A ∷ 7 ∷ 0 ∷ 2 ∷ 0x14 ∷ 0 ∷ 1 ∷ 0 ∷ 0 ∷ 0 ∷ 0 ∷ 1 ∷ 0 ∷ 0 ∷ 0 ∷ 1 ∷ (codes "A" ++ 0x80 ∷ 0 ∷ 0 ∷ 0 ∷ 0 ∷ 4 ∷ 0 ∷ 0 ∷ 0 ∷ 7 ∷ 0 ∷ 0 ∷ 0 ∷ 0 ∷ [])
+
+late_head_is : IsHeaderLine indexed late_head
+unfolding parent named is_own_template line_version behind_front version_of part_of number_of
+late_head_is = (
+  _,
+  _,
+  refl,
+  (late_line, refl, in_line late_line refl, lit≤ tt),
+  (
+    refl,
+    (
+      _,
+      _,
+      refl,
+      (0x14020007, refl, lit< tt),
+      (
+        refl,
+        (
+          _,
+          _,
+          refl,
+          (0, refl, lit< tt),
+          (
+            refl,
+            (
+              _,
+              _,
+              refl,
+              (1, refl, lit< tt),
+              (
+                refl,
+                (
+                  _,
+                  _,
+                  refl,
+                  (1, refl, lit< tt),
+                  (
+                    refl,
+                    (
+                      _,
+                      _,
+                      refl,
+                      (
+                        types,
+                        refl,
+                        (
+                          _,
+                          _,
+                          refl,
+                          (_, refl, (_, _, refl, (1, refl, lit< tt), (refl, (_, _, refl, (codes "A", refl, refl, (lit< tt, tt)), (refl, refl))))),
+                          refl,
+                        ),
+                      ),
+                      (
+                        refl,
+                        (
+                          _,
+                          _,
+                          refl,
+                          (_, refl, (_, _, refl, (0x8000, refl, lit< tt), refl)),
+                          (refl, (_, _, refl, (_, refl, (_, _, refl, (4, refl, lit< tt), refl)), (refl, refl))),
+                        ),
+                      ),
+                    ),
+                  ),
+                ),
+              ),
+            ),
+          ),
+        ),
+      ),
+    ),
+  ),
+)
+
+big_is : IsOpen indexed 11 → IsFile indexed big big_bytes
+unfolding parent named is_own_template line_version behind_front version_of part_of number_of
+big_is opens = record {
+  header = record { members = late_head; group = refl; each = late_head_is; types = refl };
+  blocks = (
+    record {
+      type = record { named = refl; concrete = refl; opens = opens };
+      index = refl;
+      indexed = refl;
+      value = (_, refl, (_, _, refl, (7, refl, lit< tt), (refl, refl)));
+      sized = refl;
+    },
+    tt,
+  );
+  count = refl;
+  footer = (_, refl, (_, _, refl, (0, refl, lit< tt), (refl, refl)));
+  text = refl;
+  few_nodes = lit≤ tt;
+  short = lit≤ tt;
+}
+
+-- ---- the versions with a zero word
+
+zero_words : (has_zero_word 0x05000000 ≡ false) × (has_zero_word 0x05000001 ≡ true) × (has_zero_word 0x0A01006A ≡ true) × (has_zero_word 0x0A01006B ≡ false)
+zero_words = (refl, refl, refl, refl)
