@@ -16,3 +16,4 @@ pub mod HeaderSteps
 pub mod SizeLaws
 pub mod KnownValues
 pub mod KnownFiles
+pub mod HeaderPlaces
