@@ -1,5 +1,5 @@
 -- Members of the header by their places.
-use Rattle.std.proofs.Common.{◌≡◌, ℕ, zero, suc, ◌||◌, Bool, true, false, Option, Some, None, option_and_then, List, [], ◌∷◌, refl, sym, ◌∙◌, ap, subst, true≢false}
+use Rattle.std.proofs.Common.{◌≡◌, ℕ, zero, suc, ◌||◌, Bool, true, false, Option, Some, None, option_and_then, List, [], ◌∷◌, refl, ◌∙◌, ap, true≢false}
 use Rattle.std.specs.Prelude.{bytes_eq}
 use Rattle.std.specs.List.{list_any}
 use Rattle.std.specs.Option.{option_map}
@@ -7,9 +7,8 @@ use Rattle.nif_base.specs.Node.{Node, Members, End, Here, Absent}
 use Rattle.nif_schema.specs.Declaration.{Name, Field}
 use Rattle.nif_schema.specs.Schema.{Schema}
 use Rattle.nif_layout.specs.Earlier.{Env, behind, last_present, passed}
-use Rattle.nif_layout.specs.Members.{Member, Check, Fields}
 use Rattle.nif_file.specs.Head.{member}
-use Rattle.nif_file.specs.Files.{header_line, head_of, IsHeaderLine}
+use Rattle.nif_file.specs.Files.{header_line, head_of}
 use Rattle.nif_file.specs.HeaderParts.{member_at, IsPlaceOf}
 
 neither : (a b : Bool) → (a || b) ≡ false → (a ≡ false) × (b ≡ false)

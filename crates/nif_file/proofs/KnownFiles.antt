@@ -1,21 +1,19 @@
 -- The first fault of a file is known within it.
-use Rattle.std.proofs.Common.{◌≡◌, ◌≢◌, ℕ, zero, suc, ◌+◌, ◌<◌, ◌≤◌, ◌⊎◌, inl, inr, Bool, true, false, ◌&&◌, ◌||◌, not, if◌then◌else◌, Option, Some, None, IsTrue, List, [], ◌∷◌, ◌++◌, length, slice_get, refl, sym, ◌∙◌, ap, subst, arith, true≢false}
-use Rattle.std.specs.Prelude.{codes, bytes_eq, nat_eq, nat_lt, nat_le, is_some, is_none}
+use Rattle.std.proofs.Common.{◌≡◌, ◌≢◌, ℕ, zero, suc, ◌+◌, ◌≤◌, ◌⊎◌, inl, inr, Bool, true, false, ◌&&◌, ◌||◌, not, if◌then◌else◌, Option, Some, None, List, [], ◌∷◌, length, refl, sym, ap, subst, arith, true≢false}
+use Rattle.std.specs.Prelude.{codes, bytes_eq, nat_eq, nat_lt, nat_le, is_none}
 use Rattle.std.specs.Option.{option_map_or}
-use Rattle.nif_base.specs.Node as node
-use Rattle.nif_base.specs.Node.{Node, Members, End, Here, Absent, text, nodes, nodes_in, is_little}
+use Rattle.nif_base.specs.Node.{Node, Members, Here, Absent, text, nodes, nodes_in}
 use Rattle.nif_base.specs.File.{Block}
 use Rattle.nif_schema.specs.Declaration.{Name, Field}
 use Rattle.nif_schema.specs.Schema.{Schema, IsSchema}
 use Rattle.nif_schema.specs.Basic.{listed_leaf}
-use Rattle.nif_schema.specs.Roles.{Roles, header_fields, has_line, is_named, is_of_basic, is_bare, is_plain, has_no_bounds, has_no_condition, lowest, highest}
+use Rattle.nif_schema.specs.Roles.{Roles, has_line, is_named, is_of_basic, is_bare, is_plain, has_no_bounds, has_no_condition, lowest, highest}
 use Rattle.nif_schema.specs.declared.decls.Leaf.TheVariants as leaf
 use Rattle.nif_layout.specs.Context.{Context}
 use Rattle.nif_layout.specs.Earlier.{Earlier, Env, behind, passed}
 use Rattle.nif_layout.specs.Present.{present}
 use Rattle.nif_layout.specs.Form.{form_of}
-use Rattle.nif_layout.specs.Fault.{Fault, TooManyNodes, Point, Passes, one_more, most_nodes}
-use Rattle.nif_layout.specs.LeafFault.{shortage, number_at}
+use Rattle.nif_layout.specs.Fault.{Point, Passes, one_more}
 use Rattle.nif_layout.specs.Members.{Member, Check, Fields}
 use Rattle.nif_layout.specs.Shape.{FormShape}
 use Rattle.nif_layout.specs.Fails.{Lifted, MemberFails, Fails, FormShapeFails, LineFails}
@@ -24,10 +22,10 @@ use Rattle.nif_file.specs.declared.faults.FileFault.TheVariants as file
 use Rattle.nif_file.specs.Stops.{Stop, of_value}
 use Rattle.nif_file.specs.FirstLine.{line_version}
 use Rattle.nif_file.specs.Sizes.{size, size_in, size_of_fields}
-use Rattle.nif_file.specs.Head.{header_context, file_context, block_context, order_in, version_in, number_of, bs_version, member, index_word, type_place, type_names, line_in}
-use Rattle.nif_file.specs.Checks.{most_blocks, most_types, highest_bs, line_fault, refuse_where, member_fault, header_check, types_fault}
-use Rattle.nif_file.specs.Files.{most_depth, header_line, head_of, header_text, IsHeaderLine, has_zero_word, zero_word, name_of, name_where, block_kind, block_text, footer_kind}
-use Rattle.nif_file.specs.FileFails.{PartFails, KindRefused, NameRefused, EntryRefused, NameFails, TypeFailsBy, TypeFails, ZeroFailsBy, ZeroFails, ValueFails, FrameFails, BlockFails, BlocksRead, BlocksFail, FooterFails, BodyFails, RestFails, HeaderReads, HeaderFails, start_of, FileStops, sized_needs}
+use Rattle.nif_file.specs.Head.{header_context, file_context, block_context, order_in, version_in, number_of, bs_version, index_word, line_in}
+use Rattle.nif_file.specs.Checks.{most_blocks, most_types, highest_bs, line_fault, refuse_where, member_fault, header_check}
+use Rattle.nif_file.specs.Files.{most_depth, header_line, head_of, header_text, has_zero_word, zero_word, name_of, name_where, block_kind, block_text, footer_kind}
+use Rattle.nif_file.specs.FileFails.{PartFails, KindRefused, NameRefused, TypeFailsBy, ZeroFailsBy, ValueFails, FrameFails, BlockFails, BlocksRead, BlocksFail, FooterFails, BodyFails, RestFails, HeaderReads, start_of, FileStops, sized_needs}
 use Rattle.nif_file.specs.FileLaws.{KnownWithin}
 use Rattle.nif_file.proofs.Walks.{none_some, some_same}
 use Rattle.nif_file.proofs.HeadNumbers.{basic_value, header_line_is, left, right}

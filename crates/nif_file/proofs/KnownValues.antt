@@ -1,5 +1,5 @@
 -- The fault of a value is known within the file.
-use Rattle.std.proofs.Common.{◌≡◌, ℕ, zero, suc, ◌+◌, ◌<◌, ◌≤◌, ◌⊎◌, inl, inr, Bool, true, false, Option, Some, None, List, [], ◌∷◌, ◌++◌, length, refl, sym, ◌∙◌, ap, subst, arith, length-append, if◌then◌else◌, eqb, ltb, ltb-true, ltb-false}
+use Rattle.std.proofs.Common.{◌≡◌, ℕ, zero, suc, ◌+◌, ◌≤◌, ◌⊎◌, inl, inr, Bool, true, false, Option, Some, None, List, [], ◌∷◌, length, refl, sym, ◌∙◌, ap, subst, arith, length-append, if◌then◌else◌, eqb, ltb, ltb-true}
 use Rattle.nif_base.specs.declared.orders.Order.{Order}
 use Rattle.nif_base.specs.Node.{Node, text, nodes, is_little}
 use Rattle.nif_schema.specs.Declaration.{Field}
@@ -9,7 +9,7 @@ use Rattle.nif_layout.specs.Earlier.{Env, behind}
 use Rattle.nif_layout.specs.Present.{present}
 use Rattle.nif_layout.specs.Kind.{Kind, Number, Line, Ref, Text, Group, Unknown}
 use Rattle.nif_layout.specs.Form.{Form, One, Run, Row, form_of}
-use Rattle.nif_layout.specs.Fault.{Fault, Ended, TooLong, LineTooLong, RefRange, StringRange, TooDeep, TooManyNodes, Point, Passes, Reads, one_more, most_bytes}
+use Rattle.nif_layout.specs.Fault.{Fault, Ended, TooLong, LineTooLong, RefRange, StringRange, TooManyNodes, Point, Passes, one_more, most_bytes}
 use Rattle.nif_layout.specs.LeafFault.{shortage, leaf_fault, or_else, newline, line_needs, line_fault, number_at, range_fault}
 use Rattle.nif_layout.specs.Members.{no_check}
 use Rattle.nif_layout.specs.Shape.{IsForm, Shape}
