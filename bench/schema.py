@@ -4,7 +4,7 @@
     bench/schema.py [PROGRAM]        PROGRAM: crates/nif/out/nif, as `rt run` in crates/nif builds it
 
 For each shape it makes texts of 0.5, 1, 2 and 4 MiB and prints the best of three runs, and how the time grew when the
-size doubled: about 2 is linear. Only paths through many types grow by 4. Exit status 0 (listed) and 3 (refused) are both fine. It is no part of the tests.
+size doubled: about 2 is linear. Only paths with a reason in children grow by 4. Exit status 0 (listed) and 3 (refused) are both fine. It is no part of the tests.
 """
 import os, resource, subprocess, sys, tempfile, time
 
@@ -61,13 +61,30 @@ def paths_through_one_name(size):
 
 
 def paths_through_many_types(size):
-    """Each path leads through as many types as there are structs, and each pair of a path and a type is looked at: this
-    grows with the square. The text is about an eighth of the size, so that it ends soon."""
-    count = size // 1000
+    """One name of many types, and as many paths of one text through it: the types are looked at once."""
+    count = size // 125
     structs = "".join('<struct name="T%d"><field name="N" type="uint"/></struct>' % i for i in range(count))
     fields = "".join('<field name="F" type="T%d"/>' % i for i in range(count))
     paths = "".join('<field name="G" type="uint" cond="F\\N"/>' for i in range(count))
     return "<niftoolsxml>" + PLAIN + structs + '<struct name="S">' + fields + paths + "</struct></niftoolsxml>"
+
+
+def types_and_paths_in_turn(size):
+    """A path stands behind each field of another type, so each looks at one type."""
+    count = size // 125
+    structs = "".join('<struct name="T%d"><field name="N" type="uint"/></struct>' % i for i in range(count))
+    fields = "".join('<field name="F" type="T%d"/><field name="G" type="uint" cond="F\\N"/>' % i for i in range(count))
+    return "<niftoolsxml>" + PLAIN + structs + '<struct name="S">' + fields + "</struct></niftoolsxml>"
+
+
+def paths_with_a_reason_in_children(size):
+    """The last of many types lacks the name, and each child's path looks at all of them again until it finds that out:
+    this grows with the square. The text is about an eighth of the size, so that it ends soon."""
+    count = size // 1000
+    structs = "".join('<struct name="T%d"><field name="%s" type="uint"/></struct>' % (i, "N" if i + 1 < count else "M") for i in range(count))
+    fields = "".join('<field name="F" type="T%d"/>' % i for i in range(count))
+    children = "".join('<niobject name="B%d" inherit="A"><field name="G" type="uint" cond="F\\N"/></niobject>' % i for i in range(count))
+    return "<niftoolsxml>" + PLAIN + structs + '<niobject name="A">' + fields + "</niobject>" + children + "</niftoolsxml>"
 
 
 def long_paths(size):
@@ -116,7 +133,8 @@ def tokens(size):
 
 
 SHAPES = [chain, chain_backwards, loop_of_parents, chain_with_fields, conditions_on_the_first, one_name, paths_through_one_name,
-          paths_through_many_types, long_paths, ring, uses_of_one_closed, children_of_one, attributes, references, deep, text_and_comments, unfinished, tokens]
+          paths_through_many_types, types_and_paths_in_turn,
+          paths_with_a_reason_in_children, long_paths, ring, uses_of_one_closed, children_of_one, attributes, references, deep, text_and_comments, unfinished, tokens]
 
 
 def best(words, runs=3):
