@@ -1,5 +1,5 @@
 -- Shapes: what a name may stand for in each of its meanings.
-use Rattle.std.specs.Prelude.{ℕ, ◌≡◌, ◌↔◌, Bool, List, flat_map, Some, is_some, Contains}
+use Rattle.std.specs.Prelude.{ℕ, ◌≡◌, ◌↔◌, Bool, List, flat_map, is_some, Contains}
 use Rattle.std.specs.declared.option.Option.{Option}
 use Rattle.std.specs.Option.{option_to_list}
 use Rattle.std.specs.List.{list_all}

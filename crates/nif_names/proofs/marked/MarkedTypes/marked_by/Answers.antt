@@ -2,7 +2,6 @@ use Rattle.std.proofs.Common.{◌≡◌, Some, slice_get, ap, subst, sym, ◌∙
 use Rattle.std.specs.Option.{option_map}
 use Rattle.std.proofs.lemmas.Option.{slice_get-get_or, slice_get-map}
 use Rattle.std.proofs.lemmas.Slice.Eq.{bytes_eq-Decides}
-use Rattle.nif_names.specs.Marks.{Mark}
 use Rattle.nif_names.specs.Kept.{plain_mark}
 use Rattle.nif_names.proofs.marked.MarkedTypes.marked_by.Goals as goal
 

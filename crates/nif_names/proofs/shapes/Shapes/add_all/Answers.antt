@@ -1,6 +1,5 @@
-use Rattle.std.proofs.Common.{◌≡◌, ◌++◌, ◌∷◌, [], List, OnOk, Ok, Err, Result, map, Some, None, sym, ap, subst, ◌∙◌}
+use Rattle.std.proofs.Common.{◌++◌, OnOk, Ok, Err, Result, map, Some, sym, ap, subst, ◌∙◌}
 use Rattle.nif_names.specs.Shapes.{Alike, shape_of}
-use Rattle.nif_names.specs.declared.shapes.Shape.{Shape}
 use Rattle.nif_names.proofs.AlikeLemmas.{Alike-inner, Alike-other}
 use Rattle.nif_names.proofs.shapes.Shapes.add_all.Goals as goal
 

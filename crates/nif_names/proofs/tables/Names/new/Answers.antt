@@ -1,6 +1,5 @@
 use Rattle.std.proofs.Common.{ℕ, List, Vec, Global, map, ap, subst}
 use Rattle.nif_names.specs.Marks.{IsMarked}
-use Rattle.nif_names.specs.Shapes.{Stack}
 use Rattle.nif_names.specs.Tables.{held, kinds, stack_of}
 use Rattle.nif_names.proofs.MarkLemmas.{none-marked}
 use Rattle.nif_names.proofs.tables.Names.new.Goals as goal
