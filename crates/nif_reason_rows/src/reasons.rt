@@ -41,7 +41,7 @@ fn last_reason<R: Abort + AllocGlobal>(rt: &R, text: &[u8]) -> Result<u8, AllocE
     }
 }
 
-const ROWS: [(&[u8], u8); 52] = [
+const ROWS: [(&[u8], u8); 74] = [
     // C1 unknown type
     (
         b"<niftoolsxml><basic name='uint'/><basic name='byte'/><basic name='bool'/><basic name='float'/><basic name='Ref'/><struct name='T'><field name='A' type='none'/></struct></niftoolsxml>",
@@ -300,6 +300,116 @@ const ROWS: [(&[u8], u8); 52] = [
     // sibling's field
     (
         b"<niftoolsxml><basic name='uint'/><basic name='byte'/><basic name='bool'/><basic name='float'/><basic name='Ref'/><niobject name='P'/><niobject name='Q' inherit='P'><field name='F' type='uint'/></niobject><niobject name='T' inherit='P'><field name='A' type='uint' cond='F'/></niobject></niftoolsxml>",
+        5,
+    ),
+    // C1 and then C5
+    (
+        b"<niftoolsxml><basic name='uint'/><basic name='byte'/><basic name='bool'/><basic name='float'/><basic name='Ref'/><struct name='T'><field name='A' type='none'/><field name='C' type='uint' cond='B'/></struct></niftoolsxml>",
+        1,
+    ),
+    // C7 before C11
+    (
+        b"<niftoolsxml><basic name='uint'/><basic name='byte'/><basic name='bool'/><basic name='float'/><basic name='Ref'/><struct name='G'><field name='X' type='#T#'/></struct><struct name='T'><field name='A' since='x' type='G'/></struct></niftoolsxml>",
+        7,
+    ),
+    // C11 and then C7
+    (
+        b"<niftoolsxml><basic name='uint'/><basic name='byte'/><basic name='bool'/><basic name='float'/><basic name='Ref'/><struct name='G'><field name='X' type='#T#'/></struct><struct name='T'><field name='A' type='uint' since='x'/><field name='B' type='G'/></struct></niftoolsxml>",
+        11,
+    ),
+    // C8 before C4
+    (
+        b"<niftoolsxml><basic name='uint'/><basic name='byte'/><basic name='bool'/><basic name='float'/><basic name='Ref'/><struct name='T'><field name='A' type='Ref' cond='+' template='x'/></struct></niftoolsxml>",
+        8,
+    ),
+    // C4 and then C8
+    (
+        b"<niftoolsxml><basic name='uint'/><basic name='byte'/><basic name='bool'/><basic name='float'/><basic name='Ref'/><struct name='T'><field name='A' type='uint' cond='+'/><field name='B' type='Ref' template='x'/></struct></niftoolsxml>",
+        4,
+    ),
+    // C11 before C12
+    (
+        b"<niftoolsxml><basic name='uint'/><basic name='byte'/><basic name='bool'/><basic name='float'/><basic name='Ref'/><struct name='T'><field name='A' type='uint' onlyT='x' since='x'/></struct></niftoolsxml>",
+        11,
+    ),
+    // C12 and then C11
+    (
+        b"<niftoolsxml><basic name='uint'/><basic name='byte'/><basic name='bool'/><basic name='float'/><basic name='Ref'/><struct name='T'><field name='A' type='uint' onlyT='x'/><field name='B' type='uint' since='x'/></struct></niftoolsxml>",
+        12,
+    ),
+    // C6 of vercond before C5 of cond
+    (
+        b"<niftoolsxml><basic name='uint'/><basic name='byte'/><basic name='bool'/><basic name='float'/><basic name='Ref'/><struct name='T'><field name='F' type='float'/><field name='A' type='uint' cond='B' vercond='F'/></struct></niftoolsxml>",
+        6,
+    ),
+    // C5 of vercond before C6 of cond
+    (
+        b"<niftoolsxml><basic name='uint'/><basic name='byte'/><basic name='bool'/><basic name='float'/><basic name='Ref'/><struct name='T'><field name='F' type='float'/><field name='A' type='uint' cond='F' vercond='B'/></struct></niftoolsxml>",
+        5,
+    ),
+    // C5 of length before C9 of width
+    (
+        b"<niftoolsxml><basic name='uint'/><basic name='byte'/><basic name='bool'/><basic name='float'/><basic name='Ref'/><struct name='T'><field name='F' type='float'/><field name='A' type='uint' width='F' length='B'/></struct></niftoolsxml>",
+        5,
+    ),
+    // C9 and then C5
+    (
+        b"<niftoolsxml><basic name='uint'/><basic name='byte'/><basic name='bool'/><basic name='float'/><basic name='Ref'/><struct name='T'><field name='F' type='float'/><field name='N' type='uint'/><field name='A' type='uint' length='N' width='F'/><field name='C' type='uint' cond='B'/></struct></niftoolsxml>",
+        9,
+    ),
+    // C6 from left to right
+    (
+        b"<niftoolsxml><basic name='uint'/><basic name='byte'/><basic name='bool'/><basic name='float'/><basic name='Ref'/><struct name='T'><field name='F' type='float'/><field name='A' type='uint' cond='F + B'/></struct></niftoolsxml>",
+        6,
+    ),
+    // C5 from left to right
+    (
+        b"<niftoolsxml><basic name='uint'/><basic name='byte'/><basic name='bool'/><basic name='float'/><basic name='Ref'/><struct name='T'><field name='F' type='float'/><field name='A' type='uint' cond='B + F'/></struct></niftoolsxml>",
+        5,
+    ),
+    // C2 before C1
+    (
+        b"<niftoolsxml><basic name='uint'/><basic name='byte'/><basic name='bool'/><basic name='float'/><basic name='Ref'/><niobject name='T' inherit='x'><field name='A' type='none'/></niobject></niftoolsxml>",
+        2,
+    ),
+    // C3 before C1
+    (
+        b"<niftoolsxml><basic name='uint'/><basic name='byte'/><basic name='bool'/><basic name='float'/><basic name='Ref'/><niobject name='T' inherit='T'><field name='A' type='none'/></niobject></niftoolsxml>",
+        3,
+    ),
+    // C0 of an ancestor before C1
+    (
+        b"<niftoolsxml><basic name='uint'/><basic name='byte'/><basic name='bool'/><basic name='float'/><basic name='Ref'/><niobject name='P' inherit='x'/><niobject name='T' inherit='P'><field name='A' type='none'/></niobject></niftoolsxml>",
+        0,
+    ),
+    // C10 before C13
+    (
+        b"<niftoolsxml><basic name='uint'/><basic name='byte'/><basic name='bool'/><basic name='float'/><basic name='Ref'/><bitfield name='T' storage='float'><member name='X' pos='64' width='2'/></bitfield></niftoolsxml>",
+        10,
+    ),
+    // C5 of a type behind a path that gives no reason
+    (
+        b"<niftoolsxml><basic name='uint'/><basic name='byte'/><basic name='bool'/><basic name='float'/><basic name='Ref'/><struct name='S'><field name='X' type='uint'/></struct><struct name='U'><field name='Y' type='uint'/></struct><struct name='T'><field name='F' type='S'/><field name='A' type='uint' cond='F\\X'/><field name='F' type='U'/><field name='B' type='uint' cond='F\\X'/></struct></niftoolsxml>",
+        5,
+    ),
+    // C5 of a type in the place of a sibling's
+    (
+        b"<niftoolsxml><basic name='uint'/><basic name='byte'/><basic name='bool'/><basic name='float'/><basic name='Ref'/><struct name='S'><field name='X' type='uint'/></struct><struct name='U'><field name='Y' type='uint'/></struct><niobject name='P'><field name='F' type='S'/></niobject><niobject name='T' inherit='P'><field name='F' type='U'/><field name='A' type='uint' cond='F\\X'/></niobject><struct name='V'><field name='X' type='uint'/></struct><niobject name='Q' inherit='P'><field name='F' type='V'/><field name='A' type='uint' cond='F\\X'/></niobject><niobject name='L' inherit='P'><field name='F' type='U'/><field name='A' type='uint' cond='F\\X'/></niobject></niftoolsxml>",
+        5,
+    ),
+    // types of a parent behind those of a child
+    (
+        b"<niftoolsxml><basic name='uint'/><basic name='byte'/><basic name='bool'/><basic name='float'/><basic name='Ref'/><struct name='S'><field name='X' type='uint'/></struct><struct name='V'><field name='X' type='uint'/></struct><niobject name='P'><field name='F' type='S'/></niobject><niobject name='Q' inherit='P'><field name='F' type='V'/><field name='A' type='uint' cond='F\\X'/></niobject><niobject name='T' inherit='P'><field name='A' type='uint' cond='F\\X'/></niobject></niftoolsxml>",
+        99,
+    ),
+    // C5 of another rest of a path
+    (
+        b"<niftoolsxml><basic name='uint'/><basic name='byte'/><basic name='bool'/><basic name='float'/><basic name='Ref'/><struct name='S'><field name='X' type='uint'/></struct><struct name='T'><field name='F' type='S'/><field name='A' type='uint' cond='F\\X'/><field name='B' type='uint' cond='F\\Y'/></struct></niftoolsxml>",
+        5,
+    ),
+    // C5 of names that are cut elsewhere
+    (
+        b"<niftoolsxml><basic name='uint'/><basic name='byte'/><basic name='bool'/><basic name='float'/><basic name='Ref'/><struct name='R'><field name='C' type='uint'/></struct><struct name='S'><field name='AB' type='R'/></struct><struct name='T'><field name='F' type='S'/><field name='A' type='uint' cond='F\\AB\\C'/><field name='B' type='uint' cond='F\\A\\BC'/></struct></niftoolsxml>",
         5,
     ),
 ];
