@@ -1,0 +1,13 @@
+mod BitNames
+mod Growing
+mod KeptMembers
+mod KeptPaths
+mod KeptRules
+mod KeptValues
+mod KeptWidths
+mod KnownKinds
+mod OneMore
+mod OpenFields
+mod OpenLine
+mod Places
+mod Powers
