@@ -1,0 +1,10 @@
+pub mod Numbers
+pub mod Ending
+pub mod Leaving
+pub mod Rooms
+pub mod Steps
+pub mod Entries
+pub mod Pieces
+pub mod Rows
+pub mod RunLaws
+pub mod Groups
