@@ -1,9 +1,8 @@
 -- The faults of a taker as faults of values.
-use Rattle.std.proofs.Common.{◌≡◌, ◌≢◌, ℕ, zero, suc, ◌+◌, ◌-◌, ◌^◌, ◌<◌, ◌≤◌, min, Bool, true, false, if◌then◌else◌, ◌&&◌, List, [], ◌∷◌, ◌++◌, length, take, Option, Some, None, refl, sym, ap, ◌∙◌, subst, arith, ltb, eqb, add-one, ltb-true, ltb-false, lt-ltb, le-ltb, cond, not}
+use Rattle.std.proofs.Common.{◌≡◌, ◌≢◌, ℕ, zero, suc, ◌+◌, ◌^◌, ◌<◌, ◌≤◌, Bool, true, false, if◌then◌else◌, ◌&&◌, List, [], ◌∷◌, length, take, Option, Some, None, refl, sym, ap, ◌∙◌, subst, arith, ltb, add-one, ltb-true, ltb-false, lt-ltb, le-ltb, cond, not}
 use Rattle.std.specs.List.{prefix_len}
 use Rattle.std.specs.Prelude.{IfSome, position, option_and_then, nat_lt, ◌==◌}
 use Rattle.std.specs.Option.{option_map, option_map_or}
-use Rattle.nif_base.specs.Reading.{TakesAtMost}
 use Rattle.nif_stream.specs.declared.takers.Taker.{Taker}
 use Rattle.nif_stream.specs.declared.takers.TakeFault.{TakeFault}
 use Rattle.nif_stream.specs.declared.takers.TakeFault.TheVariants as take
@@ -15,8 +14,8 @@ use Rattle.nif_layout.specs.LeafFault.{shortage, newline, line_needs, line_fault
 use Rattle.nif_base.specs.Outside.{Rose}
 use Rattle.nif_cells.specs.Building.{Building}
 use Rattle.nif_scope.specs.declared.entries.Entry.{Entry}
-use Rattle.nif_decode.specs.Faults.{Cause, OfValue, OfRead, OfMemory, take_cause, IsGone, known}
-use Rattle.nif_decode.specs.Answers.{Stand, Went, Ends, Stops, FailsThere, IsReadyTaker, point, line_ends}
+use Rattle.nif_decode.specs.Faults.{take_cause, IsGone}
+use Rattle.nif_decode.specs.Answers.{Ends, Stops, IsReadyTaker, line_ends}
 
 -- what a fault of the taker says of a value at a place
 abbrev pub plain_of : ℕ → TakeFault → Option Fault

@@ -1,27 +1,22 @@
 -- Groups, member by member.
-use Rattle.std.proofs.Common.{◌≡◌, ℕ, zero, suc, ◌+◌, ◌-◌, ◌*◌, ◌^◌, ◌<◌, ◌≤◌, ◌⊎◌, inl, inr, Bool, true, false, List, [], ◌∷◌, ◌++◌, length, Option, Some, None, refl, sym, ap, ◌∙◌, subst, subst₂, arith, length-append, append_assoc, append-nil, add-one}
-use Rattle.nif_base.specs.declared.orders.Order.{Order}
-use Rattle.nif_base.specs.Node as node
-use Rattle.nif_base.specs.Node.{Node, Members, End, Here, Absent, text, texts, nodes, nodes_in}
+use Rattle.std.proofs.Common.{◌≡◌, ℕ, ◌+◌, inr, Bool, true, false, List, [], ◌∷◌, ◌++◌, Option, Some, None, refl, sym, ap, ◌∙◌, subst, arith, append_assoc, append-nil}
+use Rattle.nif_base.specs.Node.{Node, Members, End, texts, nodes_in}
 use Rattle.nif_schema.specs.Declaration.{Field}
 use Rattle.nif_schema.specs.Schema.{line}
-use Rattle.nif_stream.specs.declared.takers.Taker.{Taker}
 use Rattle.nif_stream.specs.Taking.{Takes}
 use Rattle.nif_layout.specs.Earlier as env
 use Rattle.nif_layout.specs.Earlier.{Env, passed}
 use Rattle.nif_layout.specs.Members.{Member}
-use Rattle.nif_layout.specs.Fault.{Fault, Point, Passes, one_more, most_nodes}
-use Rattle.nif_layout.specs.Fails.{Counted}
+use Rattle.nif_layout.specs.Fault.{one_more}
 use Rattle.nif_layout.proofs.Passing.{count_in}
-use Rattle.nif_cells.specs.Building.{Building, Level, InGroup, placed, opened, closed, left_out}
+use Rattle.nif_cells.specs.Building.{Level, InGroup, opened}
 use Rattle.nif_value.specs.Trees.{after}
 use Rattle.nif_scope.specs.declared.settings.Setting.{Setting}
-use Rattle.nif_scope.specs.declared.entries.Entry.{Entry}
 use Rattle.nif_scope.specs.declared.entries.Entry.TheVariants as entry
-use Rattle.nif_scope.specs.Scope.{Tells, asks, context_in, earlier}
+use Rattle.nif_scope.specs.Scope.{asks, context_in, earlier}
 use Rattle.nif_scope.specs.Told.{line_told, member_told}
 use Rattle.nif_decode.specs.Faults.{Cause}
-use Rattle.nif_decode.specs.Answers.{Stand, IsReady, Goes, Ceases}
+use Rattle.nif_decode.specs.Answers.{Stand, IsReady, Ceases}
 use Rattle.nif_decode.specs.Begins.{Opens}
 use Rattle.nif_decode.specs.Groups.{IsHere, ValueShape, ValueStops, GroupStops, MemberIs, MemberStops, ReadsMember, member_bytes, member_nodes, member_kept, built_by}
 use Rattle.nif_decode.specs.SoFar.{GroupSoFar}

@@ -1,7 +1,7 @@
 -- How leaves are read.
-use Rattle.std.proofs.Common.{◌≡◌, ◌≢◌, ℕ, zero, suc, ◌+◌, ◌-◌, ◌^◌, ◌<◌, ◌≤◌, ◌⊎◌, inl, inr, Bool, true, false, List, [], ◌∷◌, ◌++◌, length, Option, Some, None, refl, sym, ap, ◌∙◌, subst, arith, length-append, eqb, ne_eqb, ltb, le-ltb}
+use Rattle.std.proofs.Common.{◌≡◌, ◌≢◌, ℕ, ◌+◌, ◌^◌, ◌<◌, ◌≤◌, inl, inr, Bool, false, List, ◌++◌, length, Option, Some, None, refl, sym, ap, ◌∙◌, subst, arith, length-append, eqb, ne_eqb, ltb, le-ltb}
 use Rattle.std.specs.Prelude.{IfSome, IsSome}
-use Rattle.nif_base.specs.Outside.{prepended, Rose}
+use Rattle.nif_base.specs.Outside.{prepended}
 use Rattle.nif_base.specs.Reading.{TakesAtMost}
 use Rattle.nif_base.specs.Node.{Node, text, nodes, number}
 use Rattle.nif_base.specs.declared.orders.Order.{Order}
@@ -11,19 +11,17 @@ use Rattle.nif_stream.specs.Taking as takes
 use Rattle.nif_stream.specs.Taking.{Takes}
 use Rattle.nif_value.specs.Trees as trees
 use Rattle.nif_stream.proofs.TakerLaws.{takes_most, keeps_same}
-use Rattle.nif_layout.specs.Context.{Context}
-use Rattle.nif_layout.specs.Kind.{Kind}
 use Rattle.nif_layout.specs.Fault as plain
 use Rattle.nif_layout.specs.Fault.{Fault, Point, Passes, one_more, most_nodes, most_bytes}
-use Rattle.nif_layout.specs.LeafFault.{leaf_fault, shortage, number_at, range_fault, or_else}
+use Rattle.nif_layout.specs.LeafFault.{shortage, number_at, range_fault, or_else}
 use Rattle.nif_layout.proofs.Leaves.{shortage_tests, number_again}
 use Rattle.nif_layout.proofs.Bytes.{length_number}
-use Rattle.nif_layout.specs.Fails.{Counted, LeafFails}
-use Rattle.nif_cells.specs.Building.{Building, placed, TakesNode}
+use Rattle.nif_layout.specs.Fails.{Counted}
+use Rattle.nif_cells.specs.Building.{placed, TakesNode}
 use Rattle.nif_value.specs.Trees.{after}
 use Rattle.nif_scope.specs.declared.entries.Entry.{Entry}
 use Rattle.nif_decode.specs.Faults.{Cause, OfValue, OfRead, OfMemory, IsGone, known}
-use Rattle.nif_decode.specs.Answers.{Stand, Went, Ends, Stops, FailsThere, IfTold, IsReadyTaker, IsReady, HasRoom, Goes, ReadsNode, Ceases, point}
+use Rattle.nif_decode.specs.Answers.{Stand, Went, Ends, Stops, FailsThere, IsReady, HasRoom, Goes, ReadsNode, Ceases, point}
 use Rattle.nif_decode.proofs.Rooms.{room_takes, text_length}
 
 -- nothing was taken

@@ -1,6 +1,6 @@
 -- Numbers of bytes.
 use Rattle.std.specs.Prelude.{All}
-use Rattle.std.proofs.Common.{lit<, ◌≢◌, ◌≡◌, ℕ, zero, suc, ◌+◌, ◌-◌, ◌*◌, ◌^◌, ◌<◌, ◌≤◌, Bool, true, false, List, [], ◌∷◌, length, drop, take, reverse, get_or, refl, sym, ap, ◌∙◌, subst, arith, drop-cons, add-zero, le_refl, take_all}
+use Rattle.std.proofs.Common.{◌≢◌, ◌≡◌, ℕ, zero, suc, ◌+◌, ◌-◌, ◌*◌, ◌^◌, ◌<◌, ◌≤◌, false, List, [], ◌∷◌, length, drop, reverse, get_or, sym, ap, ◌∙◌, subst, arith, drop-cons, add-zero, le_refl}
 use Rattle.nif_base.specs.Node.{low_first, number}
 use Rattle.std.proofs.lemmas.List.{length-reverse, reverse-reverse}
 use Rattle.nif_layout.specs.LeafFault.{low_value}

@@ -1,5 +1,5 @@
 -- Pieces of a run of bytes.
-use Rattle.std.proofs.Common.{◌≡◌, ◌≢◌, ℕ, zero, suc, ◌+◌, ◌-◌, ◌^◌, ◌<◌, ◌≤◌, Bool, true, false, if◌then◌else◌, ◌&&◌, List, [], ◌∷◌, ◌++◌, length, Option, Some, None, refl, sym, ap, ◌∙◌, subst, arith, length-append, ltb, ltb-true, ltb-false, lt-ltb, le-ltb, append_assoc, append-nil}
+use Rattle.std.proofs.Common.{◌≡◌, ◌≢◌, ℕ, ◌+◌, ◌^◌, ◌<◌, ◌≤◌, Bool, true, false, if◌then◌else◌, ◌&&◌, List, [], ◌∷◌, ◌++◌, length, Option, Some, None, refl, sym, ap, ◌∙◌, subst, arith, length-append, ltb, ltb-true, lt-ltb, append_assoc, append-nil}
 use Rattle.std.proofs.lemmas.List.{map-append}
 use Rattle.std.specs.Prelude.{IsSome}
 use Rattle.std.specs.Prelude.{IfSome, option_and_then, nat_lt}
@@ -7,7 +7,7 @@ use Rattle.nif_base.specs.Outside.{prepended, Rose}
 use Rattle.nif_stream.specs.declared.takers.Taker.{Taker}
 use Rattle.nif_stream.specs.declared.takers.TakeFault.{TakeFault}
 use Rattle.nif_stream.specs.declared.takers.TakeFault.TheVariants as take
-use Rattle.nif_stream.specs.Taking.{source_of, place_of, left_of, IsSound, Takes, Misses, need_fault, asked_at}
+use Rattle.nif_stream.specs.Taking.{source_of, place_of, left_of, Takes, Misses, need_fault, asked_at}
 use Rattle.nif_stream.proofs.TakerLaws.{need_short, need_long, keeps_same, keeps_joined, prepended_none, takes_joined}
 use Rattle.nif_layout.specs.Fault as plain
 use Rattle.nif_layout.specs.Fault.{Fault, Point, most_bytes}
@@ -21,8 +21,8 @@ use Rattle.nif_layout.proofs.DecideLeaves.{bytes_append}
 use Rattle.nif_scope.specs.declared.entries.Entry.TheVariants as entry
 use Rattle.nif_decode.specs.Runs.{bytes_kept, HasRun, RunSoFar}
 use Rattle.nif_scope.specs.declared.entries.Entry.{Entry}
-use Rattle.nif_decode.specs.Faults.{Cause, OfValue, OfRead, OfMemory, take_cause, IsGone}
-use Rattle.nif_decode.specs.Answers.{Stand, Went, Ends, Stops, FailsThere, IsReadyTaker}
+use Rattle.nif_decode.specs.Faults.{take_cause, IsGone}
+use Rattle.nif_decode.specs.Answers.{Stand, Went, Ends, Stops, FailsThere}
 use Rattle.nif_decode.proofs.Ending.{plain_of, shortage_plain, need_no_line}
 
 need_ended : (place need : ℕ) (bytes : List ℕ) → need_fault place need bytes ≡ Some take.Ended → 2 ^ 26 < place + need → 2 ^ 26 < place + length bytes → ⊥

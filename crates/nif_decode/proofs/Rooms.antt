@@ -1,15 +1,15 @@
 -- What is taken and counted has its place in the tree that is being built.
-use Rattle.std.proofs.Common.{◌≡◌, ℕ, zero, suc, ◌+◌, ◌-◌, ◌^◌, ◌<◌, ◌≤◌, Bool, true, false, ◌||◌, List, [], ◌∷◌, ◌++◌, length, Option, Some, None, refl, sym, ap, ◌∙◌, subst, arith, length-append}
+use Rattle.std.proofs.Common.{◌≡◌, ℕ, ◌+◌, ◌^◌, ◌<◌, ◌≤◌, true, ◌||◌, List, [], ◌∷◌, length, Option, refl, sym, ◌∙◌, subst, arith, length-append}
 use Rattle.std.specs.Option.{IsSomeAnd}
 use Rattle.nif_base.specs.declared.orders.Order.{Order}
 use Rattle.nif_base.specs.declared.orders.Order.TheVariants.{Little}
-use Rattle.nif_base.specs.Node.{Node, Members, Num, Line, Ref, Text, Bytes, Group, Row, End, Here, Absent, text, texts, nodes, nodes_in, is_little, number, place_or_none}
+use Rattle.nif_base.specs.Node.{Node, Members, Num, Line, Ref, Text, Bytes, Group, Row, End, Here, Absent, text, texts, nodes, is_little, place_or_none}
 use Rattle.nif_stream.specs.Taking.{place_of}
 use Rattle.nif_layout.specs.Fault.{most_nodes}
 use Rattle.nif_layout.proofs.Bytes.{length_number}
-use Rattle.nif_cells.specs.Building.{Building, Level, InBytes, InGroup, InRow, placed, bytes_of, nodes_open, bytes_open, TakesNode, TakesAbsent, left_out, behind}
+use Rattle.nif_cells.specs.Building.{Level, InBytes, InGroup, InRow, placed, bytes_of, TakesNode, TakesAbsent, left_out}
 use Rattle.nif_cells.proofs.Sizing.{nodes-behind, bytes-behind, nodes-absent_behind, bytes-absent_behind}
-use Rattle.nif_value.specs.Trees.{Takes, IsWithin, nodes_built, bytes_built, after}
+use Rattle.nif_value.specs.Trees.{Takes, IsWithin, nodes_built, bytes_built}
 use Rattle.nif_decode.specs.Answers.{Stand, HasRoom}
 
 mutual

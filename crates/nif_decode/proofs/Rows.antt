@@ -1,7 +1,7 @@
 -- Rows, item by item.
-use Rattle.std.proofs.Common.{◌≡◌, ℕ, zero, suc, ◌+◌, ◌-◌, ◌*◌, ◌^◌, ◌<◌, ◌≤◌, ◌⊎◌, inl, inr, Bool, true, false, List, [], ◌∷◌, ◌++◌, length, Option, Some, None, refl, sym, ap, ◌∙◌, subst, subst₂, arith, length-append, append_assoc, append-nil, add-one}
+use Rattle.std.proofs.Common.{◌≡◌, ℕ, zero, suc, ◌+◌, ◌-◌, ◌<◌, ◌≤◌, ◌⊎◌, inl, inr, Bool, true, false, List, [], ◌∷◌, ◌++◌, length, Option, Some, None, refl, sym, ap, ◌∙◌, subst, arith, length-append, append_assoc, append-nil, add-one}
 use Rattle.std.specs.Prelude.{IfSome, IsSome}
-use Rattle.nif_base.specs.Outside.{prepended, Rose}
+use Rattle.nif_base.specs.Outside.{prepended}
 use Rattle.nif_base.specs.declared.orders.Order.{Order}
 use Rattle.nif_base.specs.Node as node
 use Rattle.nif_base.specs.Node.{Node, Members, End, Here, Absent, text, texts, nodes, nodes_in}
@@ -16,13 +16,12 @@ use Rattle.nif_layout.specs.Members.{Items}
 use Rattle.nif_layout.specs.Shape.{IsForm}
 use Rattle.nif_layout.specs.Fails.{Counted, ItemsFail, FormFails}
 use Rattle.nif_layout.proofs.Passing.{count_in}
-use Rattle.nif_cells.specs.Building.{Building, Level, InBytes, InGroup, InRow, placed, opened, closed, behind}
+use Rattle.nif_cells.specs.Building.{Level, InRow, placed, opened, closed, behind}
 use Rattle.nif_value.specs.Trees.{after}
-use Rattle.nif_scope.specs.declared.entries.Entry.{Entry}
 use Rattle.nif_scope.specs.declared.entries.Entry.TheVariants as entry
 use Rattle.nif_scope.specs.Told.{items_told, member_told}
 use Rattle.nif_decode.specs.Faults.{Cause, OfValue, OfRead, OfMemory, IsGone}
-use Rattle.nif_decode.specs.Answers.{Stand, Went, Stops, FailsThere, IsReadyTaker, IsReady, HasRoom, Goes, ReadsNode, Ceases, point}
+use Rattle.nif_decode.specs.Answers.{Stand, Went, Stops, FailsThere, IsReadyTaker, IsReady, Goes, ReadsNode, Ceases, point}
 use Rattle.nif_decode.specs.Begins.{Opens}
 use Rattle.nif_decode.specs.Kept.{item_kept, row_head}
 use Rattle.nif_decode.specs.SoFar.{RowSoFar, items_kept}

@@ -1,17 +1,13 @@
 -- A run of bytes, from its count to its end.
-use Rattle.std.proofs.Common.{◌≡◌, ℕ, suc, ◌+◌, ◌-◌, ◌^◌, ◌<◌, ◌≤◌, inl, inr, Bool, true, false, List, [], ◌∷◌, ◌++◌, length, Option, Some, None, refl, sym, ap, ◌∙◌, subst, arith, length-append, append_assoc}
+use Rattle.std.proofs.Common.{◌≡◌, ℕ, Bool, true, false, List, [], ◌∷◌, ◌++◌, Option, Some, None, refl, sym, ap, ◌∙◌, subst, arith}
 use Rattle.std.proofs.lemmas.List.{length-map}
-use Rattle.std.specs.Prelude.{IsSome}
 use Rattle.std.specs.Option.{IsSomeAnd}
 use Rattle.nif_base.specs.declared.orders.Order.{Order}
 use Rattle.nif_base.specs.Node as node
 use Rattle.nif_stream.specs.Taking.{place_of, Takes}
-use Rattle.nif_layout.specs.Fault.{Fault, Point, most_nodes}
-use Rattle.nif_layout.specs.LeafFault.{shortage}
 use Rattle.nif_layout.specs.PathValue.{extended}
-use Rattle.nif_cells.specs.Building.{Building, Level, InBytes, placed, opened, closed, lengthened, nodes_open, bytes_open}
+use Rattle.nif_cells.specs.Building.{InBytes, placed, opened, closed, lengthened}
 use Rattle.nif_value.specs.Trees.{after, IsOpen}
-use Rattle.nif_scope.specs.declared.entries.Entry.{Entry}
 use Rattle.nif_scope.specs.declared.entries.Entry.TheVariants as entry
 use Rattle.nif_scope.specs.Told.{member_told}
 use Rattle.nif_decode.specs.Answers.{Stand, IsReady, IsReadyTaker, ReadsNode}

@@ -1,14 +1,14 @@
 -- One more member of a group or a row.
-use Rattle.std.proofs.Common.{◌≡◌, ℕ, zero, suc, ◌+◌, inl, inr, Bool, true, false, List, [], ◌∷◌, ◌++◌, Option, Some, None, refl, sym, ◌∙◌, ap, subst, subst₂, arith, append_assoc, append-nil, add-zero, length}
+use Rattle.std.proofs.Common.{◌≡◌, ℕ, zero, suc, ◌+◌, inl, inr, Bool, true, false, List, [], ◌∷◌, ◌++◌, Option, Some, None, refl, sym, ◌∙◌, ap, subst, subst₂, arith, append_assoc, append-nil, add-zero}
 use Rattle.nif_base.specs.declared.orders.Order.{Order}
 use Rattle.nif_base.specs.Node.{Node, Members, End, Here, Absent, text, texts, nodes, nodes_in}
 use Rattle.nif_schema.specs.Declaration.{Field}
 use Rattle.nif_layout.specs.Earlier as env
 use Rattle.nif_layout.specs.Earlier.{Env, passed}
-use Rattle.nif_layout.specs.Fault.{Fault, Point, Passes, one_more, most_nodes, most_bytes}
+use Rattle.nif_layout.specs.Fault.{Fault, Point, Passes, one_more}
 use Rattle.nif_layout.specs.Members.{Member, Fields, Items, no_check}
 use Rattle.nif_layout.specs.Fails.{MemberFails, FieldsFail, ItemsFail}
-use Rattle.nif_layout.proofs.Passing.{split, join, count_in}
+use Rattle.nif_layout.proofs.Passing.{split, count_in}
 use Rattle.nif_cells.specs.Building.{behind, absent_behind}
 use Rattle.nif_decode.specs.Groups.{member_bytes, member_nodes}
 

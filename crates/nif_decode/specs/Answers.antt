@@ -11,7 +11,7 @@ pub use Rattle.nif_stream.specs.Taking.{Takes}
 use Rattle.nif_stream.specs.Taking.{source_of, place_of, left_of, ahead_of, IsSound, KeepsStill}
 use Rattle.nif_layout.specs.Fault.{Fault, Point, most_nodes}
 use Rattle.nif_layout.specs.LeafFault.{shortage, newline, line_needs, line_fault, or_else}
-use Rattle.nif_cells.specs.Building.{Building, Level, placed, TakesNode}
+use Rattle.nif_cells.specs.Building.{Building, placed, TakesNode}
 use Rattle.nif_value.specs.Trees.{Trees, after, nodes_built, bytes_built}
 use Rattle.nif_scope.specs.declared.entries.Entry.{Entry}
 use Rattle.nif_decode.specs.declared.faults.ValueFault.{ValueFault}

@@ -10,12 +10,12 @@ use Rattle.nif_layout.specs.Leaf.{AreBytes}
 use Rattle.nif_layout.specs.LeafFault.{shortage}
 use Rattle.nif_layout.specs.Fails.{Counted}
 use Rattle.nif_cells.specs.Building.{Level, opened, left_out}
-use Rattle.nif_value.specs.Trees.{Trees, after}
+use Rattle.nif_value.specs.Trees.{after}
 use Rattle.nif_scope.specs.declared.entries.Entry.{Entry}
 use Rattle.nif_scope.specs.declared.entries.Entry.TheVariants as entry
 use Rattle.nif_decode.specs.declared.faults.ValueFault.{ValueFault}
 use Rattle.nif_decode.specs.Faults.{OfValue, OfMemory, cause}
-use Rattle.nif_decode.specs.Answers.{Stand, stand}
+use Rattle.nif_decode.specs.Answers.{Stand}
 
 -- A node was counted and its level is open, or there are too many nodes, or memory ran out.
 pub record Opens {S : Type 0} (level : Level) (kept : Entry) (old new : Stand S) : Type 0 where

@@ -1,12 +1,11 @@
 -- Members of a group, one after another.
-use Rattle.std.specs.Prelude.{ℕ, ◌≡◌, ◌+◌, Bool, true, false, List, [], ◌∷◌, ◌++◌, None, Some, Ok, Err, IsSome, drop}
+use Rattle.std.specs.Prelude.{ℕ, ◌≡◌, Bool, true, false, List, [], ◌∷◌, ◌++◌, None, Some, Ok, Err}
 use Rattle.std.specs.declared.option.Option.{Option}
 use Rattle.std.specs.declared.result.Result.{Result}
 use Rattle.nif_base.specs.declared.orders.Order.{Order}
-use Rattle.nif_base.specs.Node.{Node, Members, text, nodes}
+use Rattle.nif_base.specs.Node.{Node, text, nodes}
 use Rattle.nif_schema.specs.Declaration.{Field}
-use Rattle.nif_schema.specs.Schema.{Schema, line}
-use Rattle.nif_layout.specs.Context.{Context}
+use Rattle.nif_schema.specs.Schema.{line}
 use Rattle.nif_layout.specs.Earlier.{Env}
 use Rattle.nif_layout.specs.Present.{present}
 use Rattle.nif_layout.specs.Form.{form_of}
@@ -18,7 +17,7 @@ use Rattle.nif_value.specs.Trees.{after}
 use Rattle.nif_scope.specs.declared.settings.Setting.{Setting}
 use Rattle.nif_scope.specs.declared.entries.Entry.{Entry}
 use Rattle.nif_scope.specs.declared.entries.Entry.TheVariants as entry
-use Rattle.nif_scope.specs.Scope.{asks, context_in, earlier}
+use Rattle.nif_scope.specs.Scope.{asks, context_in}
 use Rattle.nif_scope.specs.Told.{member_told}
 use Rattle.nif_decode.specs.declared.faults.ValueFault.{ValueFault}
 use Rattle.nif_decode.specs.Faults.{cause}

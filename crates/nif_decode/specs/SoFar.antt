@@ -1,19 +1,17 @@
 -- What a group or a row that is being read holds so far.
-use Rattle.std.specs.Prelude.{ℕ, ◌≡◌, ◌+◌, ◌<◌, Bool, true, false, List, [], ◌∷◌, ◌++◌, None, Some, length}
+use Rattle.std.specs.Prelude.{ℕ, ◌≡◌, ◌+◌, Bool, List, [], ◌∷◌, ◌++◌, None, Some}
 use Rattle.std.specs.declared.option.Option.{Option}
 use Rattle.nif_base.specs.declared.orders.Order.{Order}
 use Rattle.nif_base.specs.Node.{Node, Members, End, Here, Absent, texts, nodes_in}
 use Rattle.nif_schema.specs.Declaration.{Field}
-use Rattle.nif_schema.specs.Schema.{line}
-use Rattle.nif_layout.specs.Fault.{Fault, most_nodes}
+use Rattle.nif_layout.specs.Fault.{Fault}
 use Rattle.nif_layout.specs.Members.{Fields, Items, no_check}
-use Rattle.nif_cells.specs.Building.{Building, Level, InGroup, InRow}
+use Rattle.nif_cells.specs.Building.{Level, InGroup, InRow}
 use Rattle.nif_scope.specs.declared.settings.Setting.{Setting}
 use Rattle.nif_scope.specs.declared.entries.Entry.{Entry}
 use Rattle.nif_scope.specs.declared.entries.Entry.TheVariants as entry
 use Rattle.nif_scope.specs.Scope.{Tells, context_in}
-use Rattle.nif_scope.specs.Told.{item_told}
-use Rattle.nif_decode.specs.Answers.{Stand, Goes, HasRoom}
+use Rattle.nif_decode.specs.Answers.{Stand, Goes}
 use Rattle.nif_decode.specs.Kept.{item_kept}
 use Rattle.nif_decode.specs.Groups.{IsHere, ValueShape}
 

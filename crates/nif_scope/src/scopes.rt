@@ -1,7 +1,6 @@
 //! What expressions are behind the members that were read.
-ghost use Rattle.std.specs.Prelude.{◌≡◌, ℕ, ◌+◌, ◌*◌, ◌^◌, ◌<◌, length, true, List, [], ◌∷◌, ◌++◌, IfOk, OnOk, OnErr, IfSome, None, Some};
-ghost use Rattle.std.specs.Option.{option_map_or};
-ghost use Rattle.nif_base.specs.Node.{Node, Members, End, Here, Absent, Num, Group, Bytes, Row};
+ghost use Rattle.std.specs.Prelude.{◌≡◌, ◌^◌, ◌<◌, true};
+ghost use Rattle.nif_base.specs.Node.{Members};
 ghost use Rattle.nif_schema.specs.Declaration.{field, formula};
 ghost use Rattle.nif_layout.specs.Form.{form_of, width_at};
 ghost use Rattle.nif_layout.specs.PathValue.{extended, path_value};

@@ -1,7 +1,7 @@
-use Rattle.std.proofs.Common.{◌≡◌, ◌<◌, ◌+◌, ◌||◌, false, ℕ, length, sym, ◌∙◌, ap, subst, arith, List, Some, refl, take, ◌++◌, ◌∷◌, []}
+use Rattle.std.proofs.Common.{◌≡◌, sym, ◌∙◌, ap, subst, Some, refl}
 use Rattle.nif_base.specs.Node as node
 use Rattle.nif_base.specs.Node.{text, number, is_little, place_or_none}
-use Rattle.nif_stream.specs.Taking.{Takes, place_of}
+use Rattle.nif_stream.specs.Taking.{Takes}
 use Rattle.nif_layout.specs.Kind as kind
 use Rattle.nif_layout.specs.Leaf.{IsLeaf}
 use Rattle.nif_layout.specs.Fault as plain
@@ -9,9 +9,9 @@ use Rattle.nif_layout.specs.LeafFault.{leaf_fault}
 use Rattle.nif_layout.specs.Fails.{LeafFails}
 use Rattle.nif_scope.specs.Scope.{context_of}
 use Rattle.nif_scope.specs.Told as kept
-use Rattle.nif_decode.specs.Faults.{Cause, OfValue, cause}
-use Rattle.nif_decode.specs.Answers.{Ceases, stand, Adds, line_ends}
-use Rattle.nif_decode.proofs.Leaving.{full_ceases, ends_ceases, memory_ceases, leaf_reads, taken_takes, went_takes, some_building, range_ceases}
+use Rattle.nif_decode.specs.Faults.{OfValue, cause}
+use Rattle.nif_decode.specs.Answers.{Ceases, stand}
+use Rattle.nif_decode.proofs.Leaving.{full_ceases, ends_ceases, leaf_reads, taken_takes, some_building}
 use Rattle.nif_decode.proofs.leaves.read_number.Goals as goal
 
 pub returns-in-Err-clause-answers : goal.returns-in-Err-clause-answers

@@ -1,6 +1,6 @@
-use Rattle.std.proofs.Common.{◌≡◌, length, get_or, ◌++◌, ◌∷◌, ap, ◌∙◌, sym, subst, [], ◌+◌, take, set}
+use Rattle.std.proofs.Common.{◌≡◌, get_or, ◌++◌, ◌∷◌, ap, ◌∙◌, sym, subst, [], ◌+◌, take}
 use Rattle.std.proofs.Math.Seq.{get_or-append_seam}
-use Rattle.nif_scope.specs.Told.{told, item_told}
+use Rattle.nif_scope.specs.Told.{item_told}
 use Rattle.nif_decode.specs.Kept.{item_kept}
 use Rattle.nif_decode.proofs.Entries.{set_head, take_head, told_head}
 use Rattle.nif_decode.proofs.opens.settle_item.Goals as goal

@@ -1,5 +1,4 @@
-use Rattle.std.proofs.Common.{◌≡◌, ◌+◌, ◌-◌, ◌<◌, ◌≤◌, ℕ, length, length-append, append_assoc, sym, ◌∙◌, ap, subst, arith, refl, [], ◌∷◌, ◌++◌, Some}
-use Rattle.nif_cells.specs.Building.{InBytes}
+use Rattle.std.proofs.Common.{◌≡◌, length, length-append, append_assoc, ◌∙◌, ap, arith, refl, [], ◌∷◌, ◌++◌, Some}
 use Rattle.nif_layout.specs.LeafFault.{shortage}
 use Rattle.nif_scope.specs.declared.entries.Entry.TheVariants as entry
 use Rattle.nif_decode.specs.Faults.{cause}

@@ -1,5 +1,5 @@
-use Rattle.std.proofs.Common.{◌≡◌, ◌+◌, ◌-◌, ◌^◌, ◌<◌, ◌≤◌, ℕ, length, length-take, take, sym, ◌∙◌, ap, subst, arith, refl, []}
-use Rattle.nif_stream.specs.Taking.{place_of, Misses, need_fault, asked_at}
+use Rattle.std.proofs.Common.{◌≡◌, ◌+◌, ◌-◌, ◌^◌, ◌≤◌, length, length-take, sym, ◌∙◌, ap, subst, arith, refl}
+use Rattle.nif_stream.specs.Taking.{place_of}
 use Rattle.nif_layout.specs.LeafFault.{shortage}
 use Rattle.nif_decode.specs.Faults.{take_cause}
 use Rattle.nif_decode.specs.Answers.{Ends, stand}

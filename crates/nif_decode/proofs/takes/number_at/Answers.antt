@@ -1,5 +1,4 @@
-use Rattle.std.proofs.Common.{length, ap, ◌∙◌, subst, ◌^◌, ◌<◌, arith}
-use Rattle.std.proofs.lemmas.List.{length-reverse}
+use Rattle.std.proofs.Common.{length, ap, ◌∙◌}
 use Rattle.nif_base.specs.Node.{number}
 use Rattle.nif_decode.proofs.Numbers.{turned}
 use Rattle.nif_decode.proofs.takes.number_at.Goals as goal

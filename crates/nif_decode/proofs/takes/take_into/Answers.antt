@@ -1,4 +1,4 @@
-use Rattle.std.proofs.Common.{◌≡◌, ◌<◌, ℕ, length, sym, ◌∙◌, ap, subst, arith, List, ◌^◌}
+use Rattle.std.proofs.Common.{◌≡◌, length, sym, ◌∙◌, ap, subst, arith}
 use Rattle.nif_base.specs.Node.{number}
 use Rattle.nif_stream.specs.Taking.{Takes, Misses, need_fault, asked_at, place_of}
 use Rattle.nif_layout.specs.LeafFault.{shortage}

@@ -1,4 +1,4 @@
-use Rattle.std.proofs.Common.{sym, ◌∙◌, ap, subst, arith, take}
+use Rattle.std.proofs.Common.{sym, ◌∙◌, ap, subst}
 use Rattle.nif_decode.specs.Faults.{take_cause}
 use Rattle.nif_decode.specs.Answers.{Ends, line_ends}
 use Rattle.nif_decode.proofs.Ending.{line_ends_from}
