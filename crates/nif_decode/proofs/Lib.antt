@@ -6,5 +6,14 @@ pub mod Steps
 pub mod Entries
 pub mod Pieces
 pub mod Rows
+pub mod RowsOfRows
 pub mod RunLaws
 pub mod Groups
+pub mod NextMember
+pub mod OneValue
+pub mod ScopeLaws
+pub mod LineFields
+pub mod Nothing
+pub mod Decoding
+pub mod LineSteps
+pub mod MemberSteps

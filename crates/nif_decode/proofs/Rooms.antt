@@ -10,7 +10,8 @@ use Rattle.nif_layout.proofs.Bytes.{length_number}
 use Rattle.nif_cells.specs.Building.{Level, InBytes, InGroup, InRow, placed, bytes_of, TakesNode, TakesAbsent, left_out}
 use Rattle.nif_cells.proofs.Sizing.{nodes-behind, bytes-behind, nodes-absent_behind, bytes-absent_behind}
 use Rattle.nif_value.specs.Trees.{Takes, IsWithin, nodes_built, bytes_built}
-use Rattle.nif_decode.specs.Answers.{Stand, HasRoom}
+use Rattle.nif_scope.specs.declared.entries.Entry.{Entry}
+use Rattle.nif_decode.specs.Answers.{Stand, HasRoom, IsReady}
 
 mutual
   -- a node has as many bytes in either order
@@ -84,3 +85,33 @@ room_absent at more r n p h =
       place = t;
       limits = absent_within b.top b.levels at.nodes (place_of at.taker) t r.nodes n r.bytes p (omega (arith, r.levels));
     })
+
+-- a reader that may open so many levels may open fewer
+pub ready_less : {S : Type 0} (at : Stand S) (k fewer : ℕ) → fewer ≤ k → IsReady at k → IsReady at fewer
+ready_less at k fewer less r = record {
+  taker = r.taker;
+  counted = r.counted;
+  room = record {
+    tree = r.room.tree;
+    is = r.room.is;
+    takes = r.room.takes;
+    nodes = r.room.nodes;
+    bytes = r.room.bytes;
+    levels = omega (arith, less, r.room.levels);
+  };
+}
+
+-- whatever is kept
+pub ready_told : {S : Type 0} (at : Stand S) (k : ℕ) (told : List Entry) → IsReady at k → IsReady (record at { told = told }) k
+ready_told at k told r = record {
+  taker = r.taker;
+  counted = r.counted;
+  room = record {
+    tree = r.room.tree;
+    is = r.room.is;
+    takes = r.room.takes;
+    nodes = r.room.nodes;
+    bytes = r.room.bytes;
+    levels = r.room.levels;
+  };
+}

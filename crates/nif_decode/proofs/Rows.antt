@@ -1,6 +1,8 @@
 -- Rows, item by item.
-use Rattle.std.proofs.Common.{◌≡◌, ℕ, zero, suc, ◌+◌, ◌-◌, ◌<◌, ◌≤◌, ◌⊎◌, inl, inr, Bool, true, false, List, [], ◌∷◌, ◌++◌, length, Option, Some, None, refl, sym, ap, ◌∙◌, subst, arith, length-append, append_assoc, append-nil, add-one}
+use Rattle.std.proofs.Common.{◌≡◌, ℕ, zero, suc, ◌+◌, ◌-◌, ◌<◌, ◌≤◌, ◌⊎◌, inl, inr, Bool, true, false, List, [], ◌∷◌, ◌++◌, length, take, Option, Some, None, refl, sym, ap, ◌∙◌, subst, arith, length-append, append_assoc, append-nil, add-one}
+use Rattle.std.proofs.Math.Seq.{take-append_seam}
 use Rattle.std.specs.Prelude.{IfSome, IsSome}
+use Rattle.std.specs.Option.{IsSomeAnd}
 use Rattle.nif_base.specs.Outside.{prepended}
 use Rattle.nif_base.specs.declared.orders.Order.{Order}
 use Rattle.nif_base.specs.Node as node
@@ -17,14 +19,16 @@ use Rattle.nif_layout.specs.Shape.{IsForm}
 use Rattle.nif_layout.specs.Fails.{Counted, ItemsFail, FormFails}
 use Rattle.nif_layout.proofs.Passing.{count_in}
 use Rattle.nif_cells.specs.Building.{Level, InRow, placed, opened, closed, behind}
-use Rattle.nif_value.specs.Trees.{after}
+use Rattle.nif_value.specs.Trees.{after, IsOpen}
+use Rattle.nif_scope.specs.declared.entries.Entry.{Entry}
 use Rattle.nif_scope.specs.declared.entries.Entry.TheVariants as entry
-use Rattle.nif_scope.specs.Told.{items_told, member_told}
+use Rattle.nif_scope.specs.Told.{items_told, member_told, told}
 use Rattle.nif_decode.specs.Faults.{Cause, OfValue, OfRead, OfMemory, IsGone}
 use Rattle.nif_decode.specs.Answers.{Stand, Went, Stops, FailsThere, IsReadyTaker, IsReady, Goes, ReadsNode, Ceases, point}
 use Rattle.nif_decode.specs.Begins.{Opens}
 use Rattle.nif_decode.specs.Kept.{item_kept, row_head}
 use Rattle.nif_decode.specs.SoFar.{RowSoFar, items_kept}
+use Rattle.nif_decode.proofs.Entries.{told_head}
 use Rattle.nif_decode.proofs.Leaving.{memory_ceases, went_same, stops_here}
 use Rattle.nif_decode.proofs.Rooms.{texts_length}
 use Rattle.nif_decode.proofs.Steps.{items_push, items_fail, texts-more, nodes-more}
@@ -79,7 +83,7 @@ stops_behind {S = S} left still faults F G x k old mid new (OfValue f) g h s =
 -- ---- a row
 
 pub row_first : {S : Type 0} (left : S → Option (List ℕ)) (still : S → S → Type 0) (faults : S → ℕ) (order : Order) (IsItem : ℕ → Node → Type 0) (asked : Bool) (k : ℕ) (old now : Stand S)
-    (r : IsReady old k) → now.taker ≡ old.taker → Opens (InRow End) entry.Nothing old now → RowSoFar left still faults order IsItem asked 0 r.room.tree.levels old now
+    (r : IsReady old k) → now.taker ≡ old.taker → Opens (InRow End) (entry.Nothing ∷ []) old now → RowSoFar left still faults order IsItem asked 0 r.room.tree.levels old now
 row_first left still faults order IsItem asked k old now r same o = record {
   held = End;
   done = refl;
@@ -134,6 +138,50 @@ row_step left still faults order IsItem asked count outer old mid new at s is g 
       ∙ ap (λ x. old.told ++ entry.Nothing ∷ x) (sym (kept_more asked s.held at (is_items IsItem 0 count s.held s.done)));
 }
 
+-- An item was read, and of what it keeps as a value only the item stays.
+pub row_more : {S : Type 0} (left : S → Option (List ℕ)) (still : S → S → Type 0) (faults : S → ℕ) (order : Order) (IsItem : ℕ → Node → Type 0) (IsIt : Node → Type 0) (keeps : Node → List Entry) (asked : Bool) (count : ℕ) (outer : List Level) (old mid next new : Stand S)
+    → RowSoFar left still faults order IsItem asked count outer old mid → (r : ReadsNode left still faults order IsIt keeps mid next) → ((at : Node) → IsIt at → IsItem count at)
+    → new.taker ≡ next.taker → new.nodes ≡ next.nodes → new.building ≡ next.building → new.told ≡ mid.told ++ item_kept asked r.node
+    → RowSoFar left still faults order IsItem asked (count + 1) outer old new
+row_more left still faults order IsItem IsIt keeps asked count outer old mid next new s r f st sn sb t =
+    row_step left still faults order IsItem asked count outer old mid new r.node s (f r.node r.is)
+    (record {
+      takes = subst (λ x. Takes left still faults mid.taker (text order r.node) x) (sym st) r.goes.takes;
+      nodes = sn ∙ r.goes.nodes;
+      counted = omega (arith, sn, r.goes.counted);
+    })
+    (sb ∙ r.built) t
+
+-- an item stands behind what was kept before it
+pub item_behind : (items front : List Entry) (at : Node) (start : ℕ) → items ≡ front ++ told at → length front ≡ start → start < length items
+item_behind items front at start e len =
+    let h = told_head at in
+    let long : length items ≡ length front + length (h.head ∷ h.rest) = ap length (e ∙ ap (λ x. front ++ x) h.is) ∙ length-append front (h.head ∷ h.rest) in
+    omega arith
+
+-- the entry of a row stands behind what was kept before it
+pub row_behind : {S : Type 0} (left : S → Option (List ℕ)) (still : S → S → Type 0) (faults : S → ℕ) (order : Order) (IsItem : ℕ → Node → Type 0) (asked : Bool) (count : ℕ) (outer : List Level) (old now : Stand S) (start : ℕ)
+    → RowSoFar left still faults order IsItem asked count outer old now → length old.told ≡ start → start < length now.told
+row_behind left still faults order IsItem asked count outer old now start s len =
+    let long : length now.told ≡ length old.told + length (entry.Nothing ∷ items_kept asked s.held) = ap length s.told ∙ length-append old.told (entry.Nothing ∷ items_kept asked s.held) in
+    omega arith
+
+-- what was kept before a row stands as it was
+pub row_before : {S : Type 0} (left : S → Option (List ℕ)) (still : S → S → Type 0) (faults : S → ℕ) (order : Order) (IsItem : ℕ → Node → Type 0) (asked : Bool) (count : ℕ) (outer : List Level) (old now : Stand S) (start : ℕ)
+    → RowSoFar left still faults order IsItem asked count outer old now → length old.told ≡ start → take start now.told ≡ old.told
+row_before left still faults order IsItem asked count outer old now start s len =
+    ap (λ x. take start x) s.told
+    ∙ subst (λ k. take k (old.told ++ entry.Nothing ∷ items_kept asked s.held) ≡ old.told) len (take-append_seam old.told (entry.Nothing ∷ items_kept asked s.held))
+
+pub row_closes : {S : Type 0} (left : S → Option (List ℕ)) (still : S → S → Type 0) (faults : S → ℕ) (order : Order) (IsItem : ℕ → Node → Type 0) (asked : Bool) (count : ℕ) (outer : List Level) (old now : Stand S)
+    → RowSoFar left still faults order IsItem asked count outer old now → IsSomeAnd now.building IsOpen
+row_closes left still faults order IsItem asked count outer old now s = subst (λ b. IsSomeAnd b IsOpen) (sym s.built) (λ e. absurd (cc))
+
+-- items as another says of each
+items_as : (P Q : ℕ → Node → Type 0) (k n : ℕ) (items : Members) → ((i : ℕ) (at : Node) → P i at → Q i at) → Items P k n items → Items Q k n items
+items_as P Q k zero items f h = h
+items_as P Q k (suc n) items f h = (h.0, h.1, h.2, f k h.0 h.3, items_as P Q (k + 1) n h.1 f h.4)
+
 kept_all : (items : Members) → items_kept true items ≡ items_told items
 kept_all End = refl
 kept_all (Here n rest) = ap (λ x. item_kept true n ++ x) (kept_all rest)
@@ -148,14 +196,14 @@ row_kept : (asked : Bool) (items : Members) → row_head asked (items_kept asked
 row_kept true items = ap (λ x. entry.Items (length x) ∷ x) (kept_all items)
 row_kept false items = ap (λ x. entry.Nothing ∷ x) (kept_none items)
 
-pub row_done : {S : Type 0} (left : S → Option (List ℕ)) (still : S → S → Type 0) (faults : S → ℕ) (order : Order) (Single : Kind → Node → Type 0) (item : ℕ → Form) (asked : Bool) (count n k : ℕ) (old now new : Stand S)
-    (r : IsReady old k) → count ≡ n → (s : RowSoFar left still faults order (λ i. IsForm Single (item i)) asked count r.room.tree.levels old now)
+pub row_done : {S : Type 0} (left : S → Option (List ℕ)) (still : S → S → Type 0) (faults : S → ℕ) (order : Order) (IsItem : ℕ → Node → Type 0) (Single : Kind → Node → Type 0) (item : ℕ → Form) (asked : Bool) (count n k : ℕ) (old now new : Stand S)
+    (r : IsReady old k) → count ≡ n → ((i : ℕ) (at : Node) → IsItem i at → IsForm Single (item i) at) → (s : RowSoFar left still faults order IsItem asked count r.room.tree.levels old now)
     → new.taker ≡ now.taker → new.nodes ≡ now.nodes → new.building ≡ after now.building closed
     → new.told ≡ old.told ++ row_head asked (items_kept asked s.held) ∷ items_kept asked s.held
     → ReadsNode left still faults order (IsForm Single (Row n item)) (member_told asked) old new
-row_done left still faults order Single item asked count n k old now new r e s st sn b t = record {
+row_done left still faults order IsItem Single item asked count n k old now new r e f s st sn b t = record {
   node = node.Row s.held;
-  is = (s.held, refl, subst (λ m. Items (λ i. IsForm Single (item i)) 0 m s.held) e s.done);
+  is = (s.held, refl, subst (λ m. Items (λ i. IsForm Single (item i)) 0 m s.held) e (items_as IsItem (λ i. IsForm Single (item i)) 0 count s.held f s.done));
   goes = record {
     takes = subst (λ t. Takes left still faults old.taker (texts order s.held) t) (sym st) s.goes.takes;
     nodes = sn ∙ s.goes.nodes;
@@ -165,10 +213,10 @@ row_done left still faults order Single item asked count n k old now new r e s s
   told = t ∙ ap (λ x. old.told ++ x) (row_kept asked s.held);
 }
 
-pub row_fails : {S : Type 0} (left : S → Option (List ℕ)) (still : S → S → Type 0) (faults : S → ℕ) (order : Order) (Single : Kind → Node → Type 0) (Fails : Kind → Point → Fault → Type 0) (item : ℕ → Form) (asked : Bool) (count n : ℕ) (outer : List Level) (old mid new : Stand S) (why : Cause)
-    → count < n → RowSoFar left still faults order (λ i. IsForm Single (item i)) asked count outer old mid → Ceases left still faults (FormFails order Single Fails (item count)) mid new why
+pub row_fails : {S : Type 0} (left : S → Option (List ℕ)) (still : S → S → Type 0) (faults : S → ℕ) (order : Order) (IsItem : ℕ → Node → Type 0) (Single : Kind → Node → Type 0) (Fails : Kind → Point → Fault → Type 0) (item : ℕ → Form) (asked : Bool) (count n : ℕ) (outer : List Level) (old mid new : Stand S) (why : Cause)
+    → count < n → ((i : ℕ) (at : Node) → IsItem i at → IsForm Single (item i) at) → RowSoFar left still faults order IsItem asked count outer old mid → Ceases left still faults (FormFails order Single Fails (item count)) mid new why
     → Ceases left still faults (FormFails order Single Fails (Row n item)) old new why
-row_fails left still faults order Single Fails item asked count n outer old mid new why less s c = record {
+row_fails left still faults order IsItem Single Fails item asked count n outer old mid new why less each s c = record {
   went = went_joined left still faults (texts order s.held) old.taker mid.taker new.taker s.goes.takes c.went;
   building = c.building;
   stops = stops_behind left still faults (FormFails order Single Fails (item count)) (FormFails order Single Fails (Row n item)) (texts order s.held) (1 + nodes_in s.held) old mid new.taker why s.goes
@@ -178,7 +226,7 @@ row_fails left still faults order Single Fails item asked count n outer old mid 
       inr (
         q.0,
         subst (λ m. ItemsFail order (λ i. IsForm Single (item i)) (λ i. FormFails order Single Fails (item i)) 0 m (one_more at) f) e
-            (items_fail order (λ i. IsForm Single (item i)) (λ i. FormFails order Single Fails (item i)) 0 count (n - suc count) s.held (one_more at) next f s.done q.1
+            (items_fail order (λ i. IsForm Single (item i)) (λ i. FormFails order Single Fails (item i)) 0 count (n - suc count) s.held (one_more at) next f (items_as IsItem (λ i. IsForm Single (item i)) 0 count s.held each s.done) q.1
             (subst (λ j. FormFails order Single Fails (item j) next f) (omega arith) bad)),
       ))
       c.stops;
@@ -207,3 +255,9 @@ begin_ceases left still faults Rest k old new why r st b (inr h) =
       stops = subst (λ t. Stops left faults (Counted (λ f. f) Rest) old t (OfValue (plain.TooManyNodes (place_of old.taker)))) (sym st)
           (stops_here left faults (Counted (λ f. f) Rest) old (plain.TooManyNodes (place_of old.taker)) r.taker.ahead (λ total. refl) (λ bytes. inl (h.0, refl)));
     })
+
+pub row_unbegun : {S : Type 0} (left : S → Option (List ℕ)) (still : S → S → Type 0) (faults : S → ℕ) (order : Order) (Single : Kind → Node → Type 0) (Fails : Kind → Point → Fault → Type 0) (item : ℕ → Form) (n k : ℕ) (old new : Stand S) (why : Cause)
+    → IsReady old k → new.taker ≡ old.taker → IsSome new.building → ((why ≡ OfMemory) ⊎ ((most_nodes ≤ old.nodes) × (why ≡ OfValue (plain.TooManyNodes (place_of old.taker)))))
+    → Ceases left still faults (FormFails order Single Fails (Row n item)) old new why
+row_unbegun left still faults order Single Fails item n k old new why r st b h =
+    begin_ceases left still faults (ItemsFail order (λ i. IsForm Single (item i)) (λ i. FormFails order Single Fails (item i)) 0 n) k old new why r st b h

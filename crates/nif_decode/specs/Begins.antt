@@ -18,13 +18,13 @@ use Rattle.nif_decode.specs.Faults.{OfValue, OfMemory, cause}
 use Rattle.nif_decode.specs.Answers.{Stand}
 
 -- A node was counted and its level is open, or there are too many nodes, or memory ran out.
-pub record Opens {S : Type 0} (level : Level) (kept : Entry) (old new : Stand S) : Type 0 where
+pub record Opens {S : Type 0} (level : Level) (kept : List Entry) (old new : Stand S) : Type 0 where
   pub room : old.nodes < most_nodes
   pub nodes : new.nodes ≡ old.nodes + 1
   pub building : new.building ≡ after old.building (opened level)
-  pub told : new.told ≡ old.told ++ kept ∷ []
+  pub told : new.told ≡ old.told ++ kept
 
-abbrev pub Begins : {S : Type 0} → Level → Entry → Stand S → Stand S → Result (Unit {0}) ValueFault → Type 0
+abbrev pub Begins : {S : Type 0} → Level → List Entry → Stand S → Stand S → Result (Unit {0}) ValueFault → Type 0
 Begins level kept old new (Ok _) = Opens level kept old new
 Begins level kept old new (Err fault) =
     IsSome new.building × ((cause fault ≡ OfMemory) ⊎ ((most_nodes ≤ old.nodes) × (cause fault ≡ OfValue (plain.TooManyNodes (place_of old.taker)))))

@@ -5,3 +5,7 @@ pub mod Begins
 pub mod Runs
 pub mod Groups
 pub mod SoFar
+pub mod Scopes
+pub mod Decodes
+pub mod Lines
+pub mod MembersSoFar

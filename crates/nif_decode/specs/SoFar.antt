@@ -29,12 +29,10 @@ pub record RowSoFar {S : Type 0} (left : S → Option (List ℕ)) (still : S →
   pub built : now.building ≡ Some (record { top = None; levels = InRow held ∷ outer })
   pub told : now.told ≡ old.told ++ entry.Nothing ∷ items_kept asked held
 
--- The members of the first fields of a group were read since it was begun.
+-- The members of the first fields of a group were read since it was begun, and are kept.
 pub record GroupSoFar {S : Type 0} (left : S → Option (List ℕ)) (still : S → S → Type 0) (faults : S → ℕ) (at : Setting) (d : ℕ) (front : List Field) (outer : List Level) (old now : Stand S) : Type 0 where
   pub held : Members
-  pub entries : List Entry
   pub done : Fields (IsHere at) (ValueShape at d) (no_check {Why = Fault}) front [] held
   pub goes : Goes left still faults (texts (context_in at).order held) (1 + nodes_in held) old now
   pub built : now.building ≡ Some (record { top = None; levels = InGroup held ∷ outer })
-  pub told : now.told ≡ old.told ++ entry.Group 0 ∷ entries
-  pub tells : Tells at entries held
+  pub tells : Tells at now.told held

@@ -43,7 +43,11 @@ fn add_number(
 }
 
 /// Adds a line, given without the 0x0A at its end, and keeps that something stands there.
-fn add_line(bytes: &[u8], store: &mut Store, told: &mut Vec<Entry>) -> Result<(), NoMemory>
+pub(crate) fn add_line(
+    bytes: &[u8],
+    store: &mut Store,
+    told: &mut Vec<Entry>,
+) -> Result<(), NoMemory>
     requires takes { Takes store.old.building TakesNode (placed (node.Line bytes.now)) }
     requires length { length bytes.now ≤ 255 }
     requires one_line { All (λ byte. byte ≢ 0x0A) bytes.now }

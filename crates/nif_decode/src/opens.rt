@@ -36,7 +36,7 @@ pub(crate) fn begin_run<S: Source>(
 ) -> Result<(), ValueFault>
     requires { IsReady (stand taker.now nodes.old store.old told.old.items) 1 }
     ensures trees { store.new.trees ≡ store.old.trees }
-    ensures begins { Begins (InBytes []) entry.Nothing (stand taker.now nodes.old store.old told.old.items) (stand taker.now nodes.new store.new told.new.items) result }
+    ensures begins { Begins (InBytes []) (entry.Nothing ∷ []) (stand taker.now nodes.old store.old told.old.items) (stand taker.now nodes.new store.new told.new.items) result }
 {
     match count(taker.place(), nodes) {
         Ok(()) => {}
@@ -49,26 +49,24 @@ pub(crate) fn begin_run<S: Source>(
     keep(told, Entry::Nothing)
 }
 
-/// Counts a group, and begins it.
+/// Counts a group, and begins it. Nothing is kept of it yet.
 pub(crate) fn begin_group<S: Source>(
     taker: &Taker<'_, S>,
     store: &mut Store,
     nodes: &mut u32,
-    told: &mut Vec<Entry>,
 ) -> Result<(), ValueFault>
-    requires { IsReady (stand taker.now nodes.old store.old told.old.items) 1 }
+    requires { IsReady (stand taker.now nodes.old store.old []) 1 }
     ensures trees { store.new.trees ≡ store.old.trees }
-    ensures begins { Begins (InGroup node.End) (entry.Group 0) (stand taker.now nodes.old store.old told.old.items) (stand taker.now nodes.new store.new told.new.items) result }
+    ensures begins { Begins (InGroup node.End) [] (stand taker.now nodes.old store.old []) (stand taker.now nodes.new store.new []) result }
 {
     match count(taker.place(), nodes) {
         Ok(()) => {}
         Err(fault) => return Err(fault),
     }
     match store.open_group() {
-        Ok(()) => {}
-        Err(NoMemory) => return Err(ValueFault::NoMemory),
+        Ok(()) => Ok(()),
+        Err(NoMemory) => Err(ValueFault::NoMemory),
     }
-    keep(told, Entry::Group { entries: 0 })
 }
 
 /// Counts a row, and begins it.
@@ -80,7 +78,7 @@ pub(crate) fn begin_row<S: Source>(
 ) -> Result<(), ValueFault>
     requires { IsReady (stand taker.now nodes.old store.old told.old.items) 1 }
     ensures trees { store.new.trees ≡ store.old.trees }
-    ensures begins { Begins (InRow node.End) entry.Nothing (stand taker.now nodes.old store.old told.old.items) (stand taker.now nodes.new store.new told.new.items) result }
+    ensures begins { Begins (InRow node.End) (entry.Nothing ∷ []) (stand taker.now nodes.old store.old told.old.items) (stand taker.now nodes.new store.new told.new.items) result }
 {
     match count(taker.place(), nodes) {
         Ok(()) => {}
@@ -91,15 +89,6 @@ pub(crate) fn begin_row<S: Source>(
         Err(NoMemory) => return Err(ValueFault::NoMemory),
     }
     keep(told, Entry::Nothing)
-}
-
-/// Says in the entry of a group how many entries of its members stand behind it.
-pub(crate) fn end_group(start: usize, told: &mut Vec<Entry>)
-    requires { start < length told.old.items }
-    ensures { (front more : List Entry) (kept : Entry) → told.old.items ≡ front ++ kept ∷ more → length front ≡ start → told.new.items ≡ front ++ entry.Group (length more) ∷ more }
-{
-    let entries = told.len() - start - 1;
-    told[start] = Entry::Group { entries };
 }
 
 /// Says in the entry of an array how many entries of its items stand behind it, where its items are asked for.

@@ -1,7 +1,8 @@
 //! Numbers and lines from the bytes that are taken.
-ghost use Rattle.std.specs.Prelude.{◌≡◌, ◌≢◌, ◌+◌, ◌^◌, ◌<◌, ◌≤◌, ℕ, length, take, [], ◌∷◌, ◌++◌, IfOk, IfErr, OnOk, All};
+ghost use Rattle.std.specs.Prelude.{◌≡◌, ◌≢◌, ◌+◌, ◌^◌, ◌<◌, ◌≤◌, ℕ, length, take, None, [], ◌∷◌, ◌++◌, IfOk, IfErr, OnOk, All};
 ghost use Rattle.nif_base.specs.Node.{low_first, number};
 ghost use Rattle.nif_layout.specs.LeafFault.{shortage};
+ghost use Rattle.nif_stream.specs.Taking.{IsSound};
 ghost use Rattle.nif_decode.specs.Faults.{cause};
 ghost use Rattle.nif_decode.specs.Answers.{Takes, Ends, IsReadyTaker, line_ends};
 
@@ -70,6 +71,19 @@ pub(crate) fn take_number<S: Source>(
 {
     let mut array = [0; 8];
     take_into(little, &mut array[..width as usize], taker)
+}
+
+/// Takes nothing: the taker has not failed, and its place is one of a file.
+pub(crate) fn take_nothing<S: Source>(taker: &mut Taker<'_, S>) -> Result<(), ValueFault>
+    requires { IsSound taker.old }
+    ensures ok { OnOk result (Takes S.left S.still S.read_faults taker.old [] taker.new) }
+    ensures err { IfErr result (λ fault. Ends S.left S.still S.read_faults (λ p. None) taker.old taker.new (cause fault)) }
+{
+    let at = taker.place();
+    match taker.take(&mut []) {
+        Ok(()) => Ok(()),
+        Err(fault) => Err(fault_at(at, fault)),
+    }
 }
 
 /// Takes a line, and answers how many bytes it has without the 0x0A at its end.

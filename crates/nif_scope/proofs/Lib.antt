@@ -1,5 +1,5 @@
 mod BitNames
-mod Growing
+pub mod Growing
 mod KeptMembers
 mod KeptPaths
 mod KeptRules
@@ -8,6 +8,6 @@ mod KeptWidths
 mod KnownKinds
 mod OneMore
 mod OpenFields
-mod OpenLine
+pub mod OpenLine
 mod Places
 mod Powers
