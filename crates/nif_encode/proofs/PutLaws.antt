@@ -1,5 +1,5 @@
 -- What was put so far, of bytes and of a node.
-use Rattle.std.proofs.Common.{ℕ, zero, suc, ◌+◌, ◌^◌, ◌<◌, ◌≤◌, ◌≡◌, ◌≢◌, min, List, [], ◌∷◌, ◌++◌, length, take, drop, Option, None, Some, IsSome, IfSome, refl, sym, ◌∙◌, ap, subst, arith, append_assoc, append-nil}
+use Rattle.std.proofs.Common.{ℕ, zero, suc, ◌+◌, ◌-◌, ◌^◌, ◌<◌, ◌≤◌, ◌≡◌, ◌≢◌, min, List, [], ◌∷◌, ◌++◌, length, take, drop, Option, None, Some, IsSome, IfSome, refl, sym, ◌∙◌, ap, subst, arith, append_assoc, append-nil}
 use Rattle.std.proofs.lemmas.List.{length-take}
 use Rattle.std.specs.Option.{option_map, IsSomeAnd}
 use Rattle.std.proofs.lemmas.List.{take_at, take-append-drop}
@@ -7,13 +7,13 @@ use Rattle.nif_base.specs.declared.orders.Order.{Order}
 use Rattle.nif_stream.specs.declared.putters.Putter.{Putter}
 use Rattle.nif_stream.specs.Putting.{IsSound, Puts, Fails}
 use Rattle.nif_stream.proofs.PutterLaws.{adds_none, puts_more, fails_more, fails_before}
-use Rattle.nif_base.specs.Node.{Node, text}
+use Rattle.nif_base.specs.Node.{Node, Num, Line, Ref, Text, Bytes, Group, Row, text}
 use Rattle.nif_cells.specs.Walks.{Met, walk}
 use Rattle.nif_cells.specs.declared.steps.Step.{Step}
 use Rattle.nif_cells.specs.declared.steps.Step.TheVariants as step
 use Rattle.nif_value.specs.Walking.{step_of, walked}
-use Rattle.nif_encode.specs.Texts.{given, met_text, depth_after, where_open, one_text, behind_one, behind_many, member_text, HasMember}
-use Rattle.nif_encode.proofs.TextLaws.{tree_text, member_ahead}
+use Rattle.nif_encode.specs.Texts.{given, met_text, depth_after, where_open, one_text, many_text, behind_one, behind_many, text_at, member_text, some_text, HasMember, HasMembers}
+use Rattle.nif_encode.proofs.TextLaws.{tree_text, some_ahead}
 
 -- nothing was put
 pub puts_none : {K : Type 0} (grew : K → List ℕ → K → Type 0) (faults : K → ℕ) (a : Putter K) → IsSound a → Puts grew faults a [] a
@@ -93,11 +93,21 @@ fits_more : (depth next all rest : ℕ) → (0 < depth → depth + all < 2 ^ 32)
 fits_more zero next all rest fits more is few = omega arith
 fits_more (suc depth) next all rest fits more is few = let h = fits (omega arith) in omega (arith, h)
 
+-- where the node ends
+passed_next : (depth : ℕ) (rest : List Met) → depth ≢ 0 → where_open depth (behind_one depth rest) rest ≡ behind_one depth rest
+passed_next zero rest h = absurd (h refl)
+passed_next (suc depth) rest h = refl
+
+passed_last : (depth : ℕ) (rest : List Met) → depth ≡ 0 → where_open depth (behind_one depth rest) rest ≡ rest
+passed_last zero rest e = refl
+passed_last (suc depth) rest e = absurd (cc)
+
 -- of a node the first bytes were put, and this is ahead
 pub record Spells {K : Type 0} (grew : K → List ℕ → K → Type 0) (faults : K → ℕ) (old : Putter K) (order : Order) (all : List Met) (depth : ℕ) (ahead : List Met) (now : Putter K) : Type 0 where
   pub done : List ℕ
   pub puts : Puts grew faults old done now
   pub whole : done ++ one_text order depth ahead ≡ one_text order 0 all
+  pub behind : behind_one depth ahead ≡ behind_one 0 all
   pub fits : 0 < depth → depth + length ahead < 2 ^ 32
 
 -- the bytes behind those of the step that is met next
@@ -121,6 +131,7 @@ spells_next grew faults old mid new order all depth met rest ahead so_far is few
   whole = append_assoc so_far.done (met_text order met) (one_text order (depth_after depth (step_of met)) rest)
       ∙ ap (λ l. so_far.done ++ (met_text order met ++ l)) (sym (behind_next order (depth_after depth (step_of met)) rest more))
       ∙ ap (λ a. so_far.done ++ one_text order depth a) (sym is) ∙ so_far.whole;
+  behind = sym (passed_next (depth_after depth (step_of met)) rest more) ∙ ap (behind_one depth) (sym is) ∙ so_far.behind;
   fits = λ _. fits_more depth (depth_after depth (step_of met)) (length ahead) (length rest) so_far.fits (depth_more depth (step_of met)) (ap length is) few;
 }
 
@@ -143,18 +154,55 @@ pub spells_end : {K : Type 0} (grew : K → List ℕ → K → Type 0) (faults :
 spells_end grew faults old now order all depth ahead so_far none =
     subst (λ l. Puts grew faults old l now) (sym (append-nil so_far.done) ∙ ap (λ a. so_far.done ++ one_text order depth a) (sym none) ∙ so_far.whole) so_far.puts
 
+-- what is ahead behind the node
+pub spells_behind : {K : Type 0} (grew : K → List ℕ → K → Type 0) (faults : K → ℕ) (old mid : Putter K) (order : Order) (all : List Met) (depth : ℕ) (met : Met) (rest ahead : List Met)
+    → Spells grew faults old order all depth ahead mid → ahead ≡ met ∷ rest → depth_after depth (step_of met) ≡ 0 → rest ≡ behind_one 0 all
+spells_behind grew faults old mid order all depth met rest ahead so_far is last = sym (passed_last (depth_after depth (step_of met)) rest last) ∙ ap (behind_one depth) (sym is) ∙ so_far.behind
+
+pub spells_end_behind : {K : Type 0} (grew : K → List ℕ → K → Type 0) (faults : K → ℕ) (old now : Putter K) (order : Order) (all : List Met) (depth : ℕ) (ahead : List Met)
+    → Spells grew faults old order all depth ahead now → ahead ≡ [] → ahead ≡ behind_one 0 all
+spells_end_behind grew faults old now order all depth ahead so_far none = none ∙ ap (behind_one depth) (sym none) ∙ so_far.behind
+
+-- of so many nodes the first were put, and this is ahead
+pub record SpellsMany {K : Type 0} (grew : K → List ℕ → K → Type 0) (faults : K → ℕ) (old : Putter K) (order : Order) (count : ℕ) (all : List Met) (i : ℕ) (ahead : List Met) (now : Putter K) : Type 0 where
+  pub done : List ℕ
+  pub puts : Puts grew faults old done now
+  pub whole : done ++ many_text order (count - i) ahead ≡ many_text order count all
+
+pub many_first : {K : Type 0} (grew : K → List ℕ → K → Type 0) (faults : K → ℕ) (old : Putter K) (order : Order) (count : ℕ) (all : List Met) → IsSound old → SpellsMany grew faults old order count all 0 all old
+many_first grew faults old order count all sound = record { done = []; puts = puts_none grew faults old sound; whole = ap (λ n. many_text order n all) (omega arith) }
+
+one_less : (order : Order) (count i : ℕ) (ahead : List Met) → i < count → one_text order 0 ahead ++ many_text order (count - (i + 1)) (behind_one 0 ahead) ≡ many_text order (count - i) ahead
+one_less order count i ahead h = let e : suc (count - (i + 1)) ≡ count - i = omega arith in ap (λ n. many_text order n ahead) e
+
+pub many_next : {K : Type 0} (grew : K → List ℕ → K → Type 0) (faults : K → ℕ) (old mid new : Putter K) (order : Order) (count : ℕ) (all : List Met) (i : ℕ) (ahead behind : List Met)
+    → SpellsMany grew faults old order count all i ahead mid → i < count → Puts grew faults mid (one_text order 0 ahead) new → behind ≡ behind_one 0 ahead
+    → SpellsMany grew faults old order count all (i + 1) behind new
+many_next grew faults old mid new order count all i ahead behind so_far h put is = record {
+  done = so_far.done ++ one_text order 0 ahead;
+  puts = puts_more grew faults old mid new so_far.done (one_text order 0 ahead) (so_far.done ++ one_text order 0 ahead) so_far.puts put refl;
+  whole = ap (λ a. (so_far.done ++ one_text order 0 ahead) ++ many_text order (count - (i + 1)) a) is
+      ∙ append_assoc so_far.done (one_text order 0 ahead) (many_text order (count - (i + 1)) (behind_one 0 ahead))
+      ∙ ap (λ l. so_far.done ++ l) (one_less order count i ahead h) ∙ so_far.whole;
+}
+
+pub many_failed : {K : Type 0} (grew : K → List ℕ → K → Type 0) (faults : K → ℕ) (old mid new : Putter K) (order : Order) (count : ℕ) (all : List Met) (i : ℕ) (ahead : List Met)
+    → SpellsMany grew faults old order count all i ahead mid → i < count → Fails grew faults mid (one_text order 0 ahead) new → Fails grew faults old (many_text order count all) new
+many_failed grew faults old mid new order count all i ahead so_far h failed =
+    fails_more grew faults old mid new so_far.done (one_text order 0 ahead) (many_text order (count - (i + 1)) (behind_one 0 ahead)) (many_text order count all) so_far.puts failed
+    (append_assoc so_far.done (one_text order 0 ahead) (many_text order (count - (i + 1)) (behind_one 0 ahead))
+    ∙ ap (λ l. so_far.done ++ l) (one_less order count i ahead h) ∙ so_far.whole)
+
+pub many_all : {K : Type 0} (grew : K → List ℕ → K → Type 0) (faults : K → ℕ) (old now : Putter K) (order : Order) (count : ℕ) (all : List Met) (i : ℕ) (ahead : List Met)
+    → SpellsMany grew faults old order count all i ahead now → i ≡ count → Puts grew faults old (many_text order count all) now
+many_all grew faults old now order count all i ahead so_far e =
+    let none : count - i ≡ 0 = omega arith in
+    subst (λ l. Puts grew faults old l now) (sym (append-nil so_far.done) ∙ ap (λ n. so_far.done ++ many_text order n ahead) (sym none) ∙ so_far.whole) so_far.puts
+
 -- of a node the first steps were passed over, and this is ahead
 pub record Passes (all : List Met) (depth : ℕ) (ahead : List Met) : Type 0 where
   pub whole : behind_one depth ahead ≡ behind_one 0 all
   pub fits : 0 < depth → depth + length ahead < 2 ^ 32
-
-passed_next : (depth : ℕ) (rest : List Met) → depth ≢ 0 → where_open depth (behind_one depth rest) rest ≡ behind_one depth rest
-passed_next zero rest h = absurd (h refl)
-passed_next (suc depth) rest h = refl
-
-passed_last : (depth : ℕ) (rest : List Met) → depth ≡ 0 → where_open depth (behind_one depth rest) rest ≡ rest
-passed_last zero rest e = refl
-passed_last (suc depth) rest e = absurd (cc)
 
 pub passes_next : (all : List Met) (depth : ℕ) (met : Met) (rest ahead : List Met) → Passes all depth ahead → ahead ≡ met ∷ rest → length ahead < 2 ^ 32 → depth_after depth (step_of met) ≢ 0 → Passes all (depth_after depth (step_of met)) rest
 passes_next all depth met rest ahead so_far is few more = record {
@@ -188,18 +236,51 @@ pub fails_at_once : {K : Type 0} (grew : K → List ℕ → K → Type 0) (fault
 fails_at_once grew faults old new spelled None failed = tt
 fails_at_once grew faults old new spelled (Some node) failed = fails_before grew faults old new [] (spelled node) (spelled node) failed refl
 
-pub member_puts : {K : Type 0} (grew : K → List ℕ → K → Type 0) (faults : K → ℕ) (old mid new : Putter K) (order : Order) (k : ℕ) (found : Option Node) (first ahead : List Met)
-    → IsSomeAnd found (HasMember k) → IfSome found (λ node. first ≡ walk node) → ahead ≡ behind_many k (walked first).ahead
-    → Puts grew faults old [] mid → Puts grew faults mid (one_text order 0 ahead) new → IfSome found (λ node. Puts grew faults old (member_text order k node) new)
-member_puts grew faults old mid new order k None first ahead has begin_is is none put = tt
-member_puts grew faults old mid new order k (Some node) first ahead has begin_is is none put =
-    puts_more grew faults old mid new [] (one_text order 0 ahead) (member_text order k node) none put
-    (member_ahead order k node ahead has (is ∙ ap (λ m. behind_many k (walked m).ahead) begin_is))
+pub some_puts : {K : Type 0} (grew : K → List ℕ → K → Type 0) (faults : K → ℕ) (old mid new : Putter K) (order : Order) (k n : ℕ) (found : Option Node) (first ahead : List Met)
+    → IsSomeAnd found (HasMembers (k + n)) → IfSome found (λ node. first ≡ walk node) → ahead ≡ behind_many k (walked first).ahead
+    → Puts grew faults old [] mid → Puts grew faults mid (many_text order n ahead) new → IfSome found (λ node. Puts grew faults old (some_text order k n node) new)
+some_puts grew faults old mid new order k n None first ahead has begin_is is none put = tt
+some_puts grew faults old mid new order k n (Some node) first ahead has begin_is is none put =
+    puts_more grew faults old mid new [] (many_text order n ahead) (some_text order k n node) none put
+    (some_ahead order k n node ahead has (is ∙ ap (λ m. behind_many k (walked m).ahead) begin_is))
 
-pub member_fails : {K : Type 0} (grew : K → List ℕ → K → Type 0) (faults : K → ℕ) (old mid new : Putter K) (order : Order) (k : ℕ) (found : Option Node) (first ahead : List Met)
-    → IsSomeAnd found (HasMember k) → IfSome found (λ node. first ≡ walk node) → ahead ≡ behind_many k (walked first).ahead
-    → Puts grew faults old [] mid → Fails grew faults mid (one_text order 0 ahead) new → IfSome found (λ node. Fails grew faults old (member_text order k node) new)
-member_fails grew faults old mid new order k None first ahead has begin_is is none failed = tt
-member_fails grew faults old mid new order k (Some node) first ahead has begin_is is none failed =
-    fails_more grew faults old mid new [] (one_text order 0 ahead) [] (member_text order k node) none failed
-    (append-nil (one_text order 0 ahead) ∙ member_ahead order k node ahead has (is ∙ ap (λ m. behind_many k (walked m).ahead) begin_is))
+pub some_fails : {K : Type 0} (grew : K → List ℕ → K → Type 0) (faults : K → ℕ) (old mid new : Putter K) (order : Order) (k n : ℕ) (found : Option Node) (first ahead : List Met)
+    → IsSomeAnd found (HasMembers (k + n)) → IfSome found (λ node. first ≡ walk node) → ahead ≡ behind_many k (walked first).ahead
+    → Puts grew faults old [] mid → Fails grew faults mid (many_text order n ahead) new → IfSome found (λ node. Fails grew faults old (some_text order k n node) new)
+some_fails grew faults old mid new order k n None first ahead has begin_is is none failed = tt
+some_fails grew faults old mid new order k n (Some node) first ahead has begin_is is none failed =
+    fails_more grew faults old mid new [] (many_text order n ahead) [] (some_text order k n node) none failed
+    (append-nil (many_text order n ahead) ∙ some_ahead order k n node ahead has (is ∙ ap (λ m. behind_many k (walked m).ahead) begin_is))
+
+-- one member
+one_some : (order : Order) (k : ℕ) (n : Node) → some_text order k 1 n ≡ member_text order k n
+one_some order k (Group members) = append-nil (text_at order k members)
+one_some order k (Num width little bits) = refl
+one_some order k (Line bytes) = refl
+one_some order k (Ref strong wanted target) = refl
+one_some order k (Text index) = refl
+one_some order k (Bytes bytes) = refl
+one_some order k (Row items) = refl
+
+pub one_puts : {K : Type 0} (grew : K → List ℕ → K → Type 0) (faults : K → ℕ) (old new : Putter K) (order : Order) (k : ℕ) (found : Option Node)
+    → IfSome found (λ node. Puts grew faults old (some_text order k 1 node) new) → IfSome found (λ node. Puts grew faults old (member_text order k node) new)
+one_puts grew faults old new order k None h = tt
+one_puts grew faults old new order k (Some node) h = subst (λ l. Puts grew faults old l new) (one_some order k node) h
+
+pub one_fails : {K : Type 0} (grew : K → List ℕ → K → Type 0) (faults : K → ℕ) (old new : Putter K) (order : Order) (k : ℕ) (found : Option Node)
+    → IfSome found (λ node. Fails grew faults old (some_text order k 1 node) new) → IfSome found (λ node. Fails grew faults old (member_text order k node) new)
+one_fails grew faults old new order k None h = tt
+one_fails grew faults old new order k (Some node) h = subst (λ l. Fails grew faults old l new) (one_some order k node) h
+
+has_one : (k : ℕ) (n : Node) → HasMember k n → HasMembers (k + 1) n
+has_one k (Group members) h = omega (arith, h)
+has_one k (Num width little bits) h = h
+has_one k (Line bytes) h = h
+has_one k (Ref strong wanted target) h = h
+has_one k (Text index) h = h
+has_one k (Bytes bytes) h = h
+has_one k (Row items) h = h
+
+pub found_one : (k : ℕ) (found : Option Node) → IsSomeAnd found (HasMember k) → IsSomeAnd found (HasMembers (k + 1))
+found_one k None h = h
+found_one k (Some n) h = has_one k n h

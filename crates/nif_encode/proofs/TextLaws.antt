@@ -1,11 +1,11 @@
 -- What is put of a walk spells the tree, or the member.
-use Rattle.std.proofs.Common.{ℕ, zero, suc, ◌-◌, ◌<◌, ◌≡◌, true, false, List, [], ◌∷◌, ◌++◌, Some, refl, sym, ◌∙◌, ap, arith, append_assoc, append-nil}
+use Rattle.std.proofs.Common.{ℕ, zero, suc, ◌+◌, ◌-◌, ◌<◌, ◌≤◌, ◌≡◌, true, false, List, [], ◌∷◌, ◌++◌, Some, refl, sym, ◌∙◌, ap, arith, append_assoc, append-nil}
 use Rattle.nif_base.specs.Node.{Node, Members, Num, Line, Ref, Text, Bytes, Group, Row, End, Here, Absent, text, texts}
 use Rattle.nif_base.specs.declared.orders.Order.{Order}
 use Rattle.nif_cells.specs.Walks.{Met, Leaf, Opens, LeftOut, Ends, count, walk, walk_in}
 use Rattle.nif_cells.specs.declared.steps.Step.{Step}
 use Rattle.nif_value.specs.Walking.{step_of, bytes_met, walked, next_step}
-use Rattle.nif_encode.specs.Texts.{HasGiven, where_open, one_text, behind_one, behind_many, text_at, member_text, HasMember}
+use Rattle.nif_encode.specs.Texts.{HasGiven, where_open, one_text, many_text, behind_one, behind_many, text_at, texts_from, some_text, HasMembers}
 
 -- the bytes behind those of a node, where so many groups and rows are open
 abbrev pub after : Order → ℕ → List Met → List ℕ
@@ -99,11 +99,19 @@ pub many_more : (k : ℕ) (ahead : List Met) → behind_one 0 (behind_many k ahe
 many_more zero ahead = refl
 many_more (suc k) ahead = many_more k (behind_one 0 ahead)
 
-pub member_ahead : (order : Order) (k : ℕ) (n : Node) (ahead : List Met) → HasMember k n → ahead ≡ behind_many k (walked (walk n)).ahead → one_text order 0 ahead ≡ member_text order k n
-member_ahead order k (Group members) ahead h is = ap (λ m. one_text order 0 m) is ∙ members_at order k members (Ends ∷ []) h
-member_ahead order k (Num width little bits) ahead h is = absurd h
-member_ahead order k (Line bytes) ahead h is = absurd h
-member_ahead order k (Ref strong wanted target) ahead h is = absurd h
-member_ahead order k (Text index) ahead h is = absurd h
-member_ahead order k (Bytes bytes) ahead h is = absurd h
-member_ahead order k (Row items) ahead h is = absurd h
+-- what is put of members, one behind another
+many_ahead : (order : Order) (k n : ℕ) (members : Members) (rest : List Met) → k + n ≤ count members → many_text order n (behind_many k (walk_in members ++ rest)) ≡ texts_from order k n members
+many_ahead order k zero members rest h = refl
+many_ahead order k (suc n) members rest h =
+    ap (λ l. l ++ many_text order n (behind_one 0 (behind_many k (walk_in members ++ rest)))) (members_at order k members rest (omega (arith, h)))
+    ∙ ap (λ a. text_at order k members ++ many_text order n a) (many_more k (walk_in members ++ rest))
+    ∙ ap (λ l. text_at order k members ++ l) (many_ahead order (suc k) n members rest (omega (arith, h)))
+
+pub some_ahead : (order : Order) (k n : ℕ) (at : Node) (ahead : List Met) → HasMembers (k + n) at → ahead ≡ behind_many k (walked (walk at)).ahead → many_text order n ahead ≡ some_text order k n at
+some_ahead order k n (Group members) ahead h is = ap (λ m. many_text order n m) is ∙ many_ahead order k n members (Ends ∷ []) h
+some_ahead order k n (Num width little bits) ahead h is = absurd h
+some_ahead order k n (Line bytes) ahead h is = absurd h
+some_ahead order k n (Ref strong wanted target) ahead h is = absurd h
+some_ahead order k n (Text index) ahead h is = absurd h
+some_ahead order k n (Bytes bytes) ahead h is = absurd h
+some_ahead order k n (Row items) ahead h is = absurd h

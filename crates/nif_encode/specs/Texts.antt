@@ -1,5 +1,5 @@
 -- The bytes of what a walk meets, and those of one node or absent member among them.
-use Rattle.std.specs.Prelude.{ℕ, zero, suc, ◌-◌, ◌<◌, ◌||◌, List, [], ◌∷◌, ◌++◌, Option, None, Some, IsSome}
+use Rattle.std.specs.Prelude.{ℕ, zero, suc, ◌-◌, ◌<◌, ◌≤◌, ◌||◌, List, [], ◌∷◌, ◌++◌, Option, None, Some, IsSome}
 use Rattle.nif_base.specs.Node.{Node, Members, Group, End, Here, Absent, number, is_little, place_or_none, text}
 use Rattle.nif_base.specs.declared.orders.Order.{Order}
 use Rattle.nif_cells.specs.Walks.{Met, count}
@@ -56,6 +56,11 @@ abbrev pub behind_one : ℕ → List Met → List Met
 behind_one depth [] = []
 behind_one depth (met ∷ rest) = where_open (depth_after depth (step_of met)) (behind_one (depth_after depth (step_of met)) rest) rest
 
+-- the bytes of so many nodes or absent members that are ahead
+abbrev pub many_text : Order → ℕ → List Met → List ℕ
+many_text order zero ahead = []
+many_text order (suc more) ahead = one_text order 0 ahead ++ many_text order more (behind_one 0 ahead)
+
 -- behind so many
 abbrev pub behind_many : ℕ → List Met → List Met
 behind_many zero ahead = ahead
@@ -78,3 +83,21 @@ member_text order k _ = []
 abbrev pub HasMember : ℕ → Node → Type 0
 HasMember k (Group members) = k < count members
 HasMember k _ = ⊥
+
+-- the bytes of so many members from this one on, one behind another
+abbrev pub texts_from : Order → ℕ → ℕ → Members → List ℕ
+texts_from order k zero members = []
+texts_from order k (suc more) members = text_at order k members ++ texts_from order (suc k) more members
+
+abbrev pub some_text : Order → ℕ → ℕ → Node → List ℕ
+some_text order k n (Group members) = texts_from order k n members
+some_text order k n _ = []
+
+-- The bytes of the members of a group from one on, up to another.
+abbrev pub members_text : Order → ℕ → ℕ → Node → List ℕ
+members_text order from to node = some_text order from (to - from) node
+
+-- a group has at least so many members
+abbrev pub HasMembers : ℕ → Node → Type 0
+HasMembers n (Group members) = n ≤ count members
+HasMembers n _ = ⊥

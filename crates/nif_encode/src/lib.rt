@@ -1,11 +1,12 @@
 //! Values to bytes. It stands on the walk of `nif_value` and puts to a `Putter` of `nif_stream`. It promises that what
-//! is put of a tree, or of a member of it, is the bytes that spell it in the order that is given, or the first of them
+//! is put of a tree, or of members of it, is the bytes that spell it in the order that is given, or the first of them
 //! where a write failed, and that the fault comes only for that cause. It takes time in proportion to the cells of the
 //! tree, and no memory: bytes go through an array of 256 on their way.
 #![tactic(auto)]
 
-mod numbers;
+pub mod numbers;
 pub mod steps;
 pub mod values;
 
-pub use values::{encode_member, encode_value};
+pub use numbers::put_number;
+pub use values::{encode_member, encode_members, encode_value};

@@ -18,7 +18,7 @@ fn fill(bytes: &mut [u8], number: u64)
 }
 
 /// Puts the lowest bytes of a number, so many as its width says: the lowest first where it is little, else the highest.
-pub(crate) fn put_number<K: Sink>(
+pub fn put_number<K: Sink>(
     little: bool,
     width: u8,
     bits: u64,

@@ -1,7 +1,7 @@
 //! The bytes of one step of a walk, and of one node.
 ghost use Rattle.std.specs.Prelude.{◌≡◌, ◌++◌, ℕ, ◌-◌, ◌^◌, ◌<◌, ◌∷◌, [], List, OnOk, OnErr, IfSome, IsSome};
 ghost use Rattle.nif_stream.specs.Putting.{IsSound, Puts, Fails};
-ghost use Rattle.nif_encode.specs.Texts.{given, step_text, HasGiven, one_text, behind_one, depth_after};
+ghost use Rattle.nif_encode.specs.Texts.{given, step_text, HasGiven, one_text, many_text, behind_one, depth_after};
 
 use crate::numbers::put_number;
 use nif_base::{Order, Sink, WriteFault};
@@ -102,6 +102,7 @@ pub(crate) fn put_one<K: Sink>(
     out: &mut Putter<'_, K>,
 ) -> Result<(), WriteFault>
     requires { IsSound out.old }
+    ensures ahead { OnOk result (walk.new.ahead ≡ behind_one 0 walk.old.ahead) }
     ensures ok { OnOk result (Puts K.grew K.write_faults out.old (one_text order 0 walk.old.ahead) out.new) }
     ensures err { OnErr result (Fails K.grew K.write_faults out.old (one_text order 0 walk.old.ahead) out.new) }
 {
@@ -114,6 +115,26 @@ pub(crate) fn put_one<K: Sink>(
         depth = step_depth(depth, step);
         if depth == 0 {
             return Ok(());
+        }
+    }
+    Ok(())
+}
+
+/// Puts the bytes of so many nodes and absent members that a walk meets next.
+pub(crate) fn put_many<K: Sink>(
+    walk: &mut Walk<'_>,
+    count: u32,
+    order: Order,
+    out: &mut Putter<'_, K>,
+) -> Result<(), WriteFault>
+    requires { IsSound out.old }
+    ensures ok { OnOk result (Puts K.grew K.write_faults out.old (many_text order count walk.old.ahead) out.new) }
+    ensures err { OnErr result (Fails K.grew K.write_faults out.old (many_text order count walk.old.ahead) out.new) }
+{
+    for _ in 0..count {
+        match put_one(walk, order, out) {
+            Ok(()) => {}
+            Err(WriteFault) => return Err(WriteFault),
         }
     }
     Ok(())

@@ -7,7 +7,7 @@ use Rattle.nif_encode.proofs.PutLaws.{Spells, puts_none, spells_next, spells_las
 use Rattle.nif_encode.proofs.steps.put_one.Goals as goal
 
 pub loop-step-init : goal.loop-step-init
-loop-step-init g c = record { done = []; puts = puts_none g.K.Sink.grew g.K.Sink.write_faults c.args.out.now c.requires; whole = refl; fits = λ h. absurd (omega arith) }
+loop-step-init g c = record { done = []; puts = puts_none g.K.Sink.grew g.K.Sink.write_faults c.args.out.now c.requires; whole = refl; behind = refl; fits = λ h. absurd (omega arith) }
 
 pub returns-in-Err-clause-err : goal.returns-in-Err-clause-err
 returns-in-Err-clause-err g c =
