@@ -92,7 +92,7 @@ held {Why} here Value check name (f ∷ fields) E members h at e = by (here E f)
 
 -- ---- a field of a name that stands once
 
-filtered : (q : Field → Bool) (fields : List Field) (f : Field) → Among fields f → q f ≡ true → Among (filter q fields) f
+pub filtered : (q : Field → Bool) (fields : List Field) (f : Field) → Among fields f → q f ≡ true → Among (filter q fields) f
 filtered q [] f is yes_f = is
 filtered q (g ∷ fields) f is yes_f = by (q g) refl is (filtered q fields f)
   where
@@ -102,13 +102,13 @@ filtered q (g ∷ fields) f is yes_f = by (q g) refl is (filtered q fields f)
     by false e (inl same) ih = absurd (true≢false (sym yes_f ∙ ap q (sym same) ∙ e))
     by false e (inr later) ih = ih later yes_f
 
-once : (p : Field → Bool) (fields : List Field) (f : Field) → is_at_most_one p fields ≡ true → Among fields f → p f ≡ true
+pub once : (p : Field → Bool) (fields : List Field) (f : Field) → is_at_most_one p fields ≡ true → Among fields f → p f ≡ true
 once p [] f h is = absurd is
 once p (g ∷ []) f h (inl same) = ap p (sym same) ∙ h
 once p (g ∷ []) f h (inr later) = absurd later
 once p (g ∷ k ∷ fields) f h is = absurd (true≢false (sym h))
 
-at_most : (p : Field → Bool) (fields : List Field) → is_one p fields ≡ true → is_at_most_one p fields ≡ true
+pub at_most : (p : Field → Bool) (fields : List Field) → is_one p fields ≡ true → is_at_most_one p fields ≡ true
 at_most p [] h = refl
 at_most p (g ∷ []) h = h
 at_most p (g ∷ k ∷ fields) h = h
@@ -121,18 +121,18 @@ pub right : (a b : Bool) → (a && b) ≡ true → b ≡ true
 right true b h = h
 right false b h = absurd (true≢false (sym h))
 
-passes_once : (p : Field → Bool) (name : Name) (fields : List Field) (f : Field) → is_at_most_one p (of_name name fields) ≡ true → Among fields f → is_named name f ≡ true → p f ≡ true
+pub passes_once : (p : Field → Bool) (name : Name) (fields : List Field) (f : Field) → is_at_most_one p (of_name name fields) ≡ true → Among fields f → is_named name f ≡ true → p f ≡ true
 unfolding of_name
 passes_once p name fields f h is named = once p (filter (is_named name) fields) f h (filtered (is_named name) fields f is named)
 
-no_length : (f : Field) → is_none f.length ≡ true → f.length ≡ None
+pub no_length : (f : Field) → is_none f.length ≡ true → f.length ≡ None
 no_length f h = by f.length h
   where
     by : {A : Type 0} (o : Option A) → is_none o ≡ true → o ≡ None
     by None h = refl
     by (Some x) h = absurd (true≢false (sym h))
 
-no_array : (f : Field) → not (is_array f) ≡ true → f.length ≡ None
+pub no_array : (f : Field) → not (is_array f) ≡ true → f.length ≡ None
 no_array f h = by f.length h
   where
     by : {A : Type 0} (o : Option A) → not (is_some o) ≡ true → o ≡ None
@@ -151,7 +151,7 @@ count_rule S fields f h is named =
     let bare = right (is_plain f) (is_none f.length && (begins_by_lowest f.since && lasts_to_highest f.until)) always in
     (left (is_of_basic S (codes "ulittle32") f) (is_always f) passes, no_length f (left (is_none f.length) (begins_by_lowest f.since && lasts_to_highest f.until) bare))
 
-strings_of : (S : Schema) (fields : List Field) → has_lists S fields ≡ true → is_once (codes "Num Strings") (λ f. is_of_basic S (codes "uint") f && is_single f) fields ≡ true
+pub strings_of : (S : Schema) (fields : List Field) → has_lists S fields ≡ true → is_once (codes "Num Strings") (λ f. is_of_basic S (codes "uint") f && is_single f) fields ≡ true
 unfolding has_lists has_string_lists
 strings_of S fields h =
     let all = right (has_type_lists S fields) (has_block_lists S fields && has_string_lists S fields) h in
@@ -169,7 +169,7 @@ strings_rule S fields f h is named =
 
 -- ---- a number of a listed basic
 
-basic_by : (S : Schema) (o : Option ℕ) → option_map_or is_basic (option_and_then (what_at S) o) false ≡ true
+pub basic_by : (S : Schema) (o : Option ℕ) → option_map_or is_basic (option_and_then (what_at S) o) false ≡ true
     → (n : ℕ) × (d : Declaration) × (own : Leaf) × (o ≡ Some n) × (slice_get S n ≡ Some d) × (d.what ≡ Basic own)
 basic_by S None h = absurd (true≢false (sym h))
 basic_by S (Some n) h = declared (slice_get S n) refl h
@@ -186,7 +186,7 @@ basic_by S (Some n) h = declared (slice_get S n) refl h
     declared (Some d) e h = let own = own_of d d.what refl h in (n, d, own.0, refl, e, own.1)
 
 -- it has its leaf
-own_leaf : (S : Schema) → IsSchema S → (n : ℕ) (d : Declaration) (own wanted : Leaf) → slice_get S n ≡ Some d → d.what ≡ Basic own → listed_leaf d.name ≡ Some wanted → own ≡ wanted
+pub own_leaf : (S : Schema) → IsSchema S → (n : ℕ) (d : Declaration) (own wanted : Leaf) → slice_get S n ≡ Some d → d.what ≡ Basic own → listed_leaf d.name ≡ Some wanted → own ≡ wanted
 own_leaf S is n d own wanted at what listed =
     let all : HasItsLeaf (get_or S n d) = is.leaves n d (slice_get_within S n d at) in
     let mine : HasItsLeaf d = subst HasItsLeaf (get_or_from_slice_get S n d d at) all in
@@ -196,19 +196,19 @@ own_leaf S is n d own wanted at what listed =
 
 -- a declaration that is found has the name
 
-found_declared : (S : Schema) (name : Name) (n : ℕ) (d : Declaration) → find S name ≡ Some n → slice_get S n ≡ Some d → d.name ≡ name
+pub found_declared : (S : Schema) (name : Name) (n : ℕ) (d : Declaration) → find S name ≡ Some n → slice_get S n ≡ Some d → d.name ≡ name
 found_declared S name n d found at = sym (ap (λ o. option_map_or (λ (x : Declaration). x.name) o []) at) ∙ found_name S name n found
 
-of_basic : (S : Schema) (name : Name) (f : Field) → is_of_basic S name f ≡ true → (f.kind ≡ name) × (option_map_or is_basic (option_and_then (what_at S) (find S name)) false ≡ true)
+pub of_basic : (S : Schema) (name : Name) (f : Field) → is_of_basic S name f ≡ true → (f.kind ≡ name) × (option_map_or is_basic (option_and_then (what_at S) (find S name)) false ≡ true)
 unfolding is_of_basic
 of_basic S name f h =
     let same = left (bytes_eq f.kind name) (declares S is_basic name) h in
     ((bytes_eq-Decides f.kind name).0 same, right (bytes_eq f.kind name) (declares S is_basic name) h)
 
-single_form : (S : Schema) (C : Context) (E : Env) (f : Field) → f.length ≡ None → form_of S C None 0 E f ≡ One (field_kind S C None 0 E f)
+pub single_form : (S : Schema) (C : Context) (E : Env) (f : Field) → f.length ≡ None → form_of S C None 0 E f ≡ One (field_kind S C None 0 E f)
 single_form S C E f none = rw none refl
 
-own_kind : (S : Schema) (C : Context) (n : ℕ) (template : Option ℕ) (arg : ℕ) (d : Declaration) (own : Leaf) → slice_get S n ≡ Some d → d.what ≡ Basic own
+pub own_kind : (S : Schema) (C : Context) (n : ℕ) (template : Option ℕ) (arg : ℕ) (d : Declaration) (own : Leaf) → slice_get S n ≡ Some d → d.what ≡ Basic own
     → kind_of S C n template arg ≡ kind_of_leaf C template own
 own_kind S C n template arg d own at what = rw (at, what) refl
 
@@ -255,7 +255,7 @@ root_within S name n root = by (slice_get S n) refl root.declared
     by None e h = absurd (cc)
     by (Some d) e h = slice_get_within S n d e
 
-no_parent : (S : Schema) (n : ℕ) → what_at S n ≡ Some Struct → parent S n ≡ None
+pub no_parent : (S : Schema) (n : ℕ) → what_at S n ≡ Some Struct → parent S n ≡ None
 unfolding parent
 no_parent S n struct = by (slice_get S n) struct
   where
@@ -263,14 +263,14 @@ no_parent S n struct = by (slice_get S n) struct
     by None e = refl
     by (Some d) e = let what : d.what ≡ Struct = cc in rw what refl
 
-struct_line : (S : Schema) (n : ℕ) → n < length S → what_at S n ≡ Some Struct → line S n ≡ fields_of S n
+pub struct_line : (S : Schema) (n : ℕ) → n < length S → what_at S n ≡ Some Struct → line S n ≡ fields_of S n
 struct_line S n below struct = by (length S) below
   where
     by : (most : ℕ) → n < most → line_within most S n ≡ fields_of S n
     by zero lt = absurd (omega arith)
     by (suc most) lt = ap (λ o. option_map_or (line_within most S) o [] ++ fields_of S n) (no_parent S n struct)
 
-header_is : (S : Schema) (n : ℕ) → find S (codes "Header") ≡ Some n → header_fields S ≡ fields_of S n
+pub header_is : (S : Schema) (n : ℕ) → find S (codes "Header") ≡ Some n → header_fields S ≡ fields_of S n
 unfolding header_fields
 header_is S n found = ap (λ o. option_map_or (fields_of S) o []) found
 

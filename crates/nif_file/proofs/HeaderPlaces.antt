@@ -11,15 +11,15 @@ use Rattle.nif_file.specs.Head.{member}
 use Rattle.nif_file.specs.Files.{header_line, head_of}
 use Rattle.nif_file.specs.HeaderParts.{member_at, IsPlaceOf}
 
-neither : (a b : Bool) → (a || b) ≡ false → (a ≡ false) × (b ≡ false)
+pub neither : (a b : Bool) → (a || b) ≡ false → (a ≡ false) × (b ≡ false)
 neither true b h = absurd (true≢false h)
 neither false b h = (refl, h)
 
-other_name : (name : Name) (f : Field) (got : Option Node) (E : Env) → bytes_eq name f.name ≡ false → last_present name (behind f got E) ≡ last_present name E
+pub other_name : (name : Name) (f : Field) (got : Option Node) (E : Env) → bytes_eq name f.name ≡ false → last_present name (behind f got E) ≡ last_present name E
 other_name name f got E other = rw other refl
 
 -- fields of other names say nothing of this one
-none_named : (name : Name) (fields : List Field) (members : Members) (E : Env) → list_any (λ f. bytes_eq name f.name) fields ≡ false → last_present name (passed fields members E) ≡ last_present name E
+pub none_named : (name : Name) (fields : List Field) (members : Members) (E : Env) → list_any (λ f. bytes_eq name f.name) fields ≡ false → last_present name (passed fields members E) ≡ last_present name E
 none_named name [] members E h = refl
 none_named name (f ∷ fields) End E h = refl
 none_named name (f ∷ fields) (Here value rest) E h =
@@ -29,11 +29,11 @@ none_named name (f ∷ fields) (Absent rest) E h =
     let n = neither (bytes_eq name f.name) (list_any (λ f. bytes_eq name f.name) fields) h in
     none_named name fields rest (behind f None E) n.1 ∙ other_name name f None E n.0
 
-abbrev node_in : Option (Field × Node) → Option Node
+abbrev pub node_in : Option (Field × Node) → Option Node
 node_in o = option_map (λ at. at.1) o
 
 -- the only field of the name
-one_named : (name : Name) (fields : List Field) (k : ℕ) (members : Members) (E : Env) → IsPlaceOf name fields (Some k) → node_in (last_present name E) ≡ None
+pub one_named : (name : Name) (fields : List Field) (k : ℕ) (members : Members) (E : Env) → IsPlaceOf name fields (Some k) → node_in (last_present name E) ≡ None
     → node_in (last_present name (passed fields members E)) ≡ member_at members k
 one_named name [] k members E is none = absurd is
 one_named name (f ∷ fields) zero End E is none = none

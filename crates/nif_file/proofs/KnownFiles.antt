@@ -34,7 +34,7 @@ use Rattle.nif_file.proofs.KnownValues.{IsOf, of_behind, left_within, short_kept
 
 -- ---- the checks of the header
 
-refused_known : (b : Bool) (fault : FileFault) (E : Env) (w : Stop) → refuse_where b fault E ≡ Some w → w.known ≡ size_of_fields E
+pub refused_known : (b : Bool) (fault : FileFault) (E : Env) (w : Stop) → refuse_where b fault E ≡ Some w → w.known ≡ size_of_fields E
 refused_known true fault E w e =
     let same : record { fault = fault; known = size_of_fields E } ≡ w = some_same (Some (record { fault = fault; known = size_of_fields E })) (record { fault = fault; known = size_of_fields E }) w refl e in
     sym (ap (λ (s : Stop). s.known) same)
@@ -44,7 +44,7 @@ either : {P : Type 0} (b : Bool) (x y : Option Stop) (w : Stop) → (x ≡ Some 
 either true x y w first second e = first e
 either false x y w first second e = second e
 
-member_known : (S : Schema) (name : Name) (n : ℕ) (E : Env) (w : Stop) → member_fault S name n E ≡ Some w → w.known ≡ size_of_fields E
+pub member_known : (S : Schema) (name : Name) (n : ℕ) (E : Env) (w : Stop) → member_fault S name n E ≡ Some w → w.known ≡ size_of_fields E
 member_known S name n E w e =
     either (bytes_eq name (codes "Version")) _ _ w (refused_known (not (nat_eq n (version_in E))) (file.VersionDisagrees (version_in E) n) E w)
     (either (bytes_eq name (codes "Endian Type")) _ _ w (refused_known (nat_lt 1 n) (file.EndianValue n) E w)
@@ -53,7 +53,7 @@ member_known S name n E w e =
     (either (bytes_eq name (codes "BS Header") || bytes_eq name (codes "User Version 2")) _ _ w (refused_known (nat_lt highest_bs (bs_version S E)) (file.BsRange (bs_version S E)) E w)
     (λ none. absurd (none_some None w refl none)))))) e
 
-line_known : (line : List ℕ) (w : Stop) → line_fault line ≡ Some w → w.known ≡ length line + 1
+pub line_known : (line : List ℕ) (w : Stop) → line_fault line ≡ Some w → w.known ≡ length line + 1
 line_known line w e = by (line_version line) e
   where
     known_is : (fault : FileFault) → ◌≡◌ {A = Option Stop} (Some (record { fault = fault; known = length line + 1 })) (Some w) → w.known ≡ length line + 1
@@ -117,12 +117,12 @@ module _ (S : Schema) (total : ℕ) where
 
 -- ---- the line
 
-no_value : {A : Type 0} (o : Option A) → is_none o ≡ true → o ≡ None
+pub no_value : {A : Type 0} (o : Option A) → is_none o ≡ true → o ≡ None
 no_value None h = refl
 no_value (Some x) h = absurd (true≢false (sym h))
 
 -- a bare field is always present
-bare_present : (S : Schema) (C : Context) (E : Env) (f : Field) → is_bare f ≡ true → present S C 0 E f ≡ true
+pub bare_present : (S : Schema) (C : Context) (E : Env) (f : Field) → is_bare f ≡ true → present S C 0 E f ≡ true
 bare_present S C E f h =
     let p = left (is_plain f) (is_none f.length && has_no_bounds f) h in
     let bounds = right (is_none f.length) (has_no_bounds f) (right (is_plain f) (is_none f.length && has_no_bounds f) h) in
@@ -141,11 +141,11 @@ bare_present S C E f h =
     let until = no_value f.until (right (is_none f.since) (is_none f.until) bounds) in
     rw (cond, vercond, user, bs, only, exclude, since, until) refl
 
-line_leaf : listed_leaf (codes "HeaderString") ≡ Some leaf.Line
+pub line_leaf : listed_leaf (codes "HeaderString") ≡ Some leaf.Line
 unfolding listed_leaf
 line_leaf = refl
 
-line_rule : (S : Schema) (f : Field) (fields : List Field) → has_line S (f ∷ fields) ≡ true → (is_of_basic S (codes "HeaderString") f ≡ true) × (is_bare f ≡ true)
+pub line_rule : (S : Schema) (f : Field) (fields : List Field) → has_line S (f ∷ fields) ≡ true → (is_of_basic S (codes "HeaderString") f ≡ true) × (is_bare f ≡ true)
 unfolding has_line
 line_rule S f fields h =
     let both = right (is_named (codes "Header String") f) (is_of_basic S (codes "HeaderString") f && is_bare f) h in
@@ -201,7 +201,7 @@ passed_size {Why} here V check (f ∷ fields) E members h = by (here E f) member
         let whole : P (Absent h.0) = omega arith in
         subst P (sym h.1) whole
 
-head_place : (S : Schema) (members : Members) (bytes : List ℕ) (next : Point) → HeaderReads S members (start_of bytes) next → next.place ≡ size_of_fields (head_of S members)
+pub head_place : (S : Schema) (members : Members) (bytes : List ℕ) (next : Point) → HeaderReads S members (start_of bytes) next → next.place ≡ size_of_fields (head_of S members)
 head_place S members bytes next r =
     let a : next.place ≡ 0 + length (header_text S members) = r.1.place in
     let b = line_length (λ E. (header_context S E).order) _ _ _ (header_line S) [] members r.0 in

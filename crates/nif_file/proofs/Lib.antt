@@ -17,3 +17,15 @@ pub mod SizeLaws
 pub mod KnownValues
 pub mod KnownFiles
 pub mod HeaderPlaces
+pub mod HeaderTexts
+pub mod PartsTexts
+pub mod PartsPuts
+pub mod HeadMembers
+pub mod MemberReading
+pub mod HeadSmall
+pub mod FieldPlaces
+pub mod HeaderEnds
+pub mod LineReading
+pub mod Noting
+pub mod HeaderMore
+pub mod HeaderWhole

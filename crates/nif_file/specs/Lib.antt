@@ -9,3 +9,7 @@ pub mod Files
 pub mod FileFails
 pub mod FileLaws
 pub mod HeaderParts
+pub mod PartsSay
+pub mod PartsText
+pub mod Heads
+pub mod HeaderReading

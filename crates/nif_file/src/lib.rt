@@ -1,12 +1,19 @@
-//! Files: what bytes a file has, and which value. It stands on `nif_base`, `nif_layout`, `nif_schema`, `nif_stream` and
-//! `nif_value`. By a schema bytes spell one file or have one fault: this is defined, and its law proved. So far it
-//! reads and writes plain files alone, and promises: a file is accepted exactly where its bytes have the form, with
-//! its one value; what is written are the bytes of the value.
+//! Files: what bytes a file has, and which value. It stands on the crates of values below it (`nif_layout`, `nif_value`,
+//! `nif_decode`, `nif_encode`, `nif_graph`), on `nif_schema` and on `nif_stream`. By a schema bytes spell one file or have
+//! one fault: this is defined, and its law proved. It promises: a header is read to the tree that it spells, or its first
+//! fault is answered; what is written of the parts of a file are its bytes, or the first of them where a write failed. So
+//! far whole files are read as plain files alone: one is accepted exactly where its bytes have the form, with its value.
 #![tactic(auto)]
 
+pub mod encode;
 pub mod faults;
 pub mod first;
+pub mod header;
+mod heads;
 pub mod laws;
+mod places;
 
+pub use encode::encode_file;
 pub use faults::FileFault;
 pub use first::{decode_first, encode_first};
+pub use header::{Header, read_header};
