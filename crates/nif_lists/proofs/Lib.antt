@@ -1,0 +1,5 @@
+pub mod PassLaws
+pub mod MemberWalks
+pub mod HeaderShapes
+pub mod ListLaws
+pub mod NameLaws

@@ -1,0 +1,180 @@
+//! The lists of a header that say something of the blocks.
+ghost use Rattle.std.specs.Prelude.{◌≡◌, ℕ, ◌^◌, slice_get, ◌++◌, ◌∷◌, [], IfOk, OnOk, OnErr};
+ghost use Rattle.std.specs.Option.{option_map};
+ghost use Rattle.nif_schema.specs.Schema.{find_block};
+ghost use Rattle.nif_file.specs.Head.{type_place};
+ghost use Rattle.nif_lists.specs.Lists.{entry_of, no_lists, with_number};
+
+use nif_base::NoMemory;
+use nif_schema::Schema;
+use nif_value::Step;
+use std::alloc::Global;
+use std::marker::Model;
+
+/// The block types that the header names, and what it says of each block.
+#[derive(Drop)]
+pub struct Lists {
+    alloc: Global,
+    // the block type of each name of the types, or none where no block type has the name
+    types: Vec<Option<u32>>,
+    // the index of types, if there is one
+    index: Option<Vec<u16>>,
+    // the sizes of the blocks, if there are any
+    sizes: Option<Vec<u32>>,
+}
+
+impl Model for Lists {
+    ghost use Rattle.std.specs.Option.{option_map};
+    ghost use Rattle.nif_lists.specs.Lists.{Listed};
+    ghost use Rattle.nif_lists.specs.Codes.{coded_listed};
+
+    ghost Value = { Listed };
+
+    ghost coded = { coded_listed };
+
+    ghost view = { λ l. record { types = l.types.items; index = option_map (λ words. words.items) l.index; sizes = option_map (λ sizes. sizes.items) l.sizes } };
+}
+
+/// The number of the block type of a name, if there is one.
+fn find_block(schema: &Schema, name: &[u8]) -> Option<u32>
+    ensures { result ≡ find_block schema.now name.now }
+{
+    let number = schema.find(name)?;
+    if schema.decl(number).what.is_block() {
+        Some(number)
+    } else {
+        None
+    }
+}
+
+/// Index words after a step: a row begins them, and the lowest 16 bits of a number are put behind the others.
+fn with_word(
+    alloc: Global,
+    words: Option<Vec<u16>>,
+    step: Step,
+) -> Result<Option<Vec<u16>>, NoMemory>
+    ensures { IfOk result (λ new. option_map (λ list. list.items) new ≡ with_number (2 ^ 16) step (option_map (λ list. list.items) words)) }
+{
+    match step {
+        Step::Row { .. } => Ok(Some(Vec::new(alloc))),
+        Step::Num { bits, .. } => {
+            let Some(mut words) = words else {
+                return Ok(None);
+            };
+            match words.push((bits % 0x10000) as u16) {
+                Ok(()) => Ok(Some(words)),
+                Err(_) => Err(NoMemory),
+            }
+        }
+        _ => Ok(words),
+    }
+}
+
+/// Sizes after a step: a row begins them, and the lowest 32 bits of a number are put behind the others.
+fn with_size(
+    alloc: Global,
+    sizes: Option<Vec<u32>>,
+    step: Step,
+) -> Result<Option<Vec<u32>>, NoMemory>
+    ensures { IfOk result (λ new. option_map (λ list. list.items) new ≡ with_number (2 ^ 32) step (option_map (λ list. list.items) sizes)) }
+{
+    match step {
+        Step::Row { .. } => Ok(Some(Vec::new(alloc))),
+        Step::Num { bits, .. } => {
+            let Some(mut sizes) = sizes else {
+                return Ok(None);
+            };
+            match sizes.push((bits % 0x1_0000_0000) as u32) {
+                Ok(()) => Ok(Some(sizes)),
+                Err(_) => Err(NoMemory),
+            }
+        }
+        _ => Ok(sizes),
+    }
+}
+
+impl Lists {
+    /// No lists. It takes no memory.
+    pub(crate) fn new(alloc: Global) -> Lists
+        ensures { result ≡ no_lists }
+    {
+        Lists {
+            alloc,
+            types: Vec::new(alloc),
+            index: None,
+            sizes: None,
+        }
+    }
+
+    /// Puts the block type of a name behind the others. After want of memory the lists are as before.
+    pub(crate) fn keep_type(&mut self, schema: &Schema, name: &[u8]) -> Result<(), NoMemory>
+        ensures ok { OnOk result (self.new ≡ record self.old { types = self.old.types ++ find_block schema.now name.now ∷ [] }) }
+        ensures err { OnErr result (self.new ≡ self.old) }
+    {
+        match self.types.push(find_block(schema, name)) {
+            Ok(()) => Ok(()),
+            Err(_) => Err(NoMemory),
+        }
+    }
+
+    /// Keeps what a step gives to the index. After want of memory there is no index.
+    pub(crate) fn keep_word(&mut self, step: Step) -> Result<(), NoMemory>
+        ensures { OnOk result (self.new ≡ record self.old { index = with_number (2 ^ 16) step self.old.index }) }
+    {
+        let words = self.index.take();
+        match with_word(self.alloc, words, step) {
+            Ok(words) => {
+                self.index = words;
+                Ok(())
+            }
+            Err(NoMemory) => Err(NoMemory),
+        }
+    }
+
+    /// Keeps what a step gives to the sizes. After want of memory there are none.
+    pub(crate) fn keep_size(&mut self, step: Step) -> Result<(), NoMemory>
+        ensures { OnOk result (self.new ≡ record self.old { sizes = with_number (2 ^ 32) step self.old.sizes }) }
+    {
+        let sizes = self.sizes.take();
+        match with_size(self.alloc, sizes, step) {
+            Ok(sizes) => {
+                self.sizes = sizes;
+                Ok(())
+            }
+            Err(NoMemory) => Err(NoMemory),
+        }
+    }
+
+    /// The index word of a block, where the file is indexed: 0 for a block behind the last of the index.
+    pub fn index_word(&self, block: u32) -> Option<u16>
+        ensures { result ≡ entry_of self.now.index block }
+    {
+        let words = self.index.as_ref()?;
+        match words.get(block as usize) {
+            Some(word) => Some(*word),
+            None => Some(0),
+        }
+    }
+
+    /// The length of the value of a block, where the file states it: 0 for a block behind the last that is stated.
+    pub fn stated_size(&self, block: u32) -> Option<u32>
+        ensures { result ≡ entry_of self.now.sizes block }
+    {
+        let sizes = self.sizes.as_ref()?;
+        match sizes.get(block as usize) {
+            Some(size) => Some(*size),
+            None => Some(0),
+        }
+    }
+
+    /// The block type that an index word names, by its low 15 bits; none within where no block type has that name, and
+    /// none at all where there is no such name.
+    pub fn type_at(&self, word: u16) -> Option<Option<u32>>
+        ensures { result ≡ slice_get self.now.types (type_place word) }
+    {
+        match self.types.get(word as usize % 0x8000) {
+            Some(kind) => Some(*kind),
+            None => None,
+        }
+    }
+}
