@@ -1,2 +1,4 @@
 pub mod Listing
 pub mod Refusals
+pub mod Quoted
+pub mod Files
