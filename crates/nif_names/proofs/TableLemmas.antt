@@ -150,6 +150,15 @@ module _ {K : Type 0} (bytes : K → List ℕ) (name : List ℕ) where
         by false h = refl
         by true h = is ∙ ap (λ s. f s.shapes) (given h)
 
+    pub types-same : new.kinds.types ≡ (get_or stacks i d).kinds.types
+        → (stack_of other (map bytes keys) (set stacks i new)).kinds.types ≡ (stack_of other (map bytes keys) stacks).kinds.types
+    unfolding old
+    types-same is = ap (λ s. s.kinds.types) (stack-set other new keys stacks i at same) ∙ by (bytes_eq other name) refl
+      where
+        by : (b : Bool) → bytes_eq other name ≡ b → (cond b new old).kinds.types ≡ old.kinds.types
+        by false h = refl
+        by true h = is ∙ ap (λ s. s.kinds.types) (given h)
+
     -- what holds of the new stack holds of the old one, or something else does, where this is the name
     pub change-cases : (P Q : Stack → Type 0) → (P new → P (get_or stacks i d) ⊎ Q (get_or stacks i d))
         → P (stack_of other (map bytes keys) (set stacks i new))

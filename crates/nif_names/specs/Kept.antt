@@ -27,7 +27,7 @@ pub record IsStack (entries : List Entry) (inners : List ℕ) (not_numbers not_r
   pub covered : IsCovered [] entries
 
 abbrev pub plain_mark : kept.Mark → Mark
-plain_mark m = record { key = m.key.items; count = m.count }
+plain_mark m = record { key = m.key.items; count = m.found.count; stop = m.found.stop }
 
 -- What was put there later was put there behind no fewer marks.
 pub record AreOrdered (since : List ℕ) (types marks : ℕ) : Type 0 where

@@ -1,17 +1,28 @@
-//! Stacks of types that are marked under keys.
-ghost use Rattle.std.specs.Prelude.{◌≡◌, ℕ, ◌<◌, ◌≤◌, ◌⊎◌, [], ◌∷◌, ◌++◌, List, length, take, OnOk, OnErr, Contains, IsTrue, Some, slice_get};
-ghost use Rattle.nif_names.specs.Marks.{IsMarked};
+//! Stacks of types, with what was found under keys of the first of them.
+ghost use Rattle.std.specs.Prelude.{◌≡◌, ℕ, ◌<◌, ◌≤◌, ◌⊎◌, [], ◌∷◌, ◌++◌, List, length, take, OnOk, OnErr, IsTrue, IfSome, Some, slice_get};
+ghost use Rattle.nif_names.specs.Marks.{AreBefore, Holds, IsFound};
 
 use indexmap::IndexMap;
 use nif_base::NoMemory;
 use std::alloc::Global;
 use std::marker::Model;
 
-/// That all types of a stack, which are so many, were marked under a key.
+/// What was found of the first types of a stack.
+#[derive(Debug, Clone, Copy, PartialEq, Eq)]
+pub struct Found {
+    /// How many types these are.
+    pub count: usize,
+    /// What was found, as a number of the caller's.
+    pub stop: u64,
+}
+
+/// What was found under a key.
 #[derive(Drop)]
 pub struct Mark {
     key: Vec<u16>,
-    count: usize,
+    found: Found,
+    /// The place of the mark under the key that was the last to hold before it.
+    before: Option<usize>,
 }
 
 /// Whether there is a type at a place that was put there when there were no more than so many marks.
@@ -24,8 +35,8 @@ fn is_before(since: &[usize], place: usize, at: usize) -> bool
     }
 }
 
-/// A stack of types. Those that are there can be marked under a key, all at once. A type that is taken off loses its
-/// marks, and one that is put there has none.
+/// A stack of types. What was found of the first so many can be kept under a key; it holds until one of them is taken
+/// off.
 #[derive(Drop)]
 pub struct MarkedTypes {
     alloc: Global,
@@ -74,7 +85,7 @@ impl MarkedTypes {
     /// Puts a type on top; after want of memory the stack is as before.
     pub fn push(&mut self, kind: u32) -> Result<(), NoMemory>
         ensures types { OnOk result (self.new.types ≡ self.old.types ++ kind ∷ []) }
-        ensures marks { OnOk result ((key : List ℕ) (one : ℕ) → IsMarked self.new key one → IsMarked self.old key one) }
+        ensures marks { OnOk result ((key types : List ℕ) (stop : ℕ) → IsFound self.new key types stop → IsFound self.old key types stop) }
         ensures err { OnErr result (self.new ≡ self.old) }
     {
         let Ok(()) = self.since.push(self.marks.len()) else {
@@ -90,17 +101,19 @@ impl MarkedTypes {
     /// Takes types off until so many are left.
     pub fn cut(&mut self, count: usize)
         ensures types { self.new.types ≡ take count self.old.types }
-        ensures marks { (key : List ℕ) (one : ℕ) → IsMarked self.new key one → IsMarked self.old key one }
+        ensures marks { (key types : List ℕ) (stop : ℕ) → IsFound self.new key types stop → IsFound self.old key types stop }
     {
         self.types.truncate(count);
         self.since.truncate(count);
     }
 
-    /// Marks all types under a key.
-    pub fn mark(&mut self, key: &[u16]) -> Result<(), NoMemory>
+    /// Keeps under a key what was found of the first types.
+    pub fn mark(&mut self, key: &[u16], found: Found) -> Result<(), NoMemory>
         ensures types { self.new.types ≡ self.old.types }
-        ensures marks { OnOk result ((other : List ℕ) (one : ℕ) → IsMarked self.new other one → IsMarked self.old other one ⊎ ((other ≡ key.now) × Contains self.old.types one)) }
+        ensures marks { OnOk result ((other types : List ℕ) (stop : ℕ) → IsFound self.new other types stop
+            → IsFound self.old other types stop ⊎ ((other ≡ key.now) × (types ≡ take found.count self.old.types) × (stop ≡ found.stop))) }
     {
+        let before = self.last(key);
         let Ok(own) = Vec::from_slice(self.alloc, key) else {
             return Err(NoMemory);
         };
@@ -112,7 +125,8 @@ impl MarkedTypes {
         };
         let Ok(()) = self.marks.push(Mark {
             key: own,
-            count: self.types.len(),
+            found,
+            before,
         })
         else {
             return Err(NoMemory);
@@ -120,53 +134,49 @@ impl MarkedTypes {
         Ok(())
     }
 
-    /// Types among which are all that aren't marked under a key.
-    pub fn unmarked(&self, key: &[u16]) -> &[u32]
-        ensures some { (kind : ℕ) → Contains result.now kind → Contains self.now.types kind }
-        ensures others { (kind : ℕ) → Contains self.now.types kind → Contains result.now kind ⊎ IsMarked self.now key.now kind }
+    /// What was last found under a key and still holds. Marks that no longer hold are passed over, and not met again.
+    pub fn found(&mut self, key: &[u16]) -> Option<Found>
+        ensures same { self.new ≡ self.old }
+        ensures within { IfSome result (λ found. found.count ≤ length self.old.types) }
+        ensures found { IfSome result (λ found. IsFound self.old key.now (take found.count self.old.types) found.stop) }
     {
-        &self.types.as_slice()[self.marked(key)..]
-    }
-
-    /// How many of the types, from the first on, are marked under a key by its last mark.
-    fn marked(&self, key: &[u16]) -> usize
-        ensures within { result ≤ length self.now.types }
-        ensures marked { (place kind : ℕ) → place < result → slice_get self.now.types place ≡ Some kind → IsMarked self.now key.now kind }
-    {
-        match self.latest.get(key) {
-            Some(at) => self.marked_by(key, *at),
-            None => 0,
+        let at = self.last(key)?;
+        if let Some(latest) = self.latest.get_mut(key) {
+            *latest = at;
         }
+        let mark = self.marks.get(at)?;
+        Some(mark.found)
     }
 
-    /// How many of the types, from the first on, are marked under a key by the mark of a place.
-    fn marked_by(&self, key: &[u16], at: usize) -> usize
-        ensures within { result ≤ length self.now.types }
-        ensures marked { (place kind : ℕ) → place < result → slice_get self.now.types place ≡ Some kind → IsMarked self.now key.now kind }
+    /// The place of the last mark under a key that still holds. No mark is before itself, so that there are no more
+    /// steps than marks.
+    fn last(&self, key: &[u16]) -> Option<usize>
+        ensures { IfSome result (λ at. (count : ℕ) × (stop : ℕ) × Holds self.now key.now at count stop) }
+    {
+        let mut at = *self.latest.get(key)?;
+        for _ in 0..self.marks.len() {
+            if self.holds(key, at) {
+                return Some(at);
+            }
+            at = self.marks.get(at)?.before?;
+        }
+        None
+    }
+
+    /// Whether there is a mark of a key at a place, and the types that it is of have all been there since.
+    fn holds(&self, key: &[u16], at: usize) -> bool
+        ensures { IsTrue result → (count : ℕ) × (stop : ℕ) × Holds self.now key.now at count stop }
     {
         let Some(mark) = self.marks.get(at) else {
-            return 0;
+            return false;
         };
-        if mark.key.as_slice() == key {
-            return self.still_there(mark.count, at);
-        }
-        0
+        mark.key.as_slice() == key && self.are_before(mark.found.count, at)
     }
 
-    /// How many of the first so many types were there when the mark of a place was set.
-    fn still_there(&self, count: usize, at: usize) -> usize
-        ensures within { result ≤ length self.now.types }
-        ensures count { result ≤ count }
-        ensures before { (place : ℕ) → place < result → (since : ℕ) × (slice_get self.now.since place ≡ Some since) × (since ≤ at) }
+    /// Whether the first so many types were all there when the mark of a place was set.
+    fn are_before(&self, count: usize, at: usize) -> bool
+        ensures { IsTrue result → AreBefore self.now count at }
     {
-        let since = self.since.as_slice();
-        let mut left = count;
-        while left > 0 {
-            if is_before(since, left - 1, at) {
-                return left;
-            }
-            left -= 1;
-        }
-        0
+        count == 0 || is_before(self.since.as_slice(), count - 1, at)
     }
 }

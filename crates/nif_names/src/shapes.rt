@@ -1,11 +1,11 @@
 //! Stacks of shapes.
-ghost use Rattle.std.specs.Prelude.{◌≡◌, ◌≢◌, ℕ, ◌-◌, ◌⊎◌, List, [], ◌∷◌, ◌++◌, length, take, map, OnOk, OnErr, Contains, ◌↔◌, is_some, IsTrue, Some};
+ghost use Rattle.std.specs.Prelude.{◌≡◌, ◌≢◌, ℕ, ◌-◌, ◌≤◌, ◌⊎◌, List, [], ◌∷◌, ◌++◌, length, take, map, OnOk, OnErr, Contains, ◌↔◌, is_some, IfSome, IsTrue, Some};
 ghost use Rattle.std.specs.List.{list_all};
 ghost use Rattle.nif_names.specs.Shapes.{inners, shape_of, Alike};
 ghost use Rattle.nif_names.specs.Kept.{new_inner};
-ghost use Rattle.nif_names.specs.Marks.{IsMarked, none_marked};
+ghost use Rattle.nif_names.specs.Marks.{IsFound, none_marked};
 
-use crate::marked::MarkedTypes;
+use crate::marked::{Found, MarkedTypes};
 use indexmap::IndexMap;
 use nif_base::NoMemory;
 use std::alloc::Global;
@@ -111,26 +111,30 @@ impl Shapes {
 
     /// Their inner types, each once.
     pub fn inners(&self) -> &[u32]
-        ensures { (inner : ℕ) → Contains result.now inner ↔ Contains (inners self.now.shapes) inner }
+        ensures value { result.now ≡ self.now.kinds.types }
+        ensures same { (inner : ℕ) → Contains result.now inner ↔ Contains (inners self.now.shapes) inner }
     {
         self.inners.types()
     }
 
-    /// Inner types among which are all that aren't marked under a key. It takes time as there are types that were
-    /// put there or taken off since the key was last marked.
-    pub fn unmarked(&self, key: &[u16]) -> &[u32]
-        ensures some { (inner : ℕ) → Contains result.now inner → Contains (inners self.now.shapes) inner }
-        ensures others { (inner : ℕ) → Contains (inners self.now.shapes) inner → Contains result.now inner ⊎ IsMarked self.now.kinds key.now inner }
+    /// What was last found under a key of the first inner types, where these are still there. It takes time as there
+    /// are marks under the key that no longer hold, each once.
+    pub fn found(&mut self, key: &[u16]) -> Option<Found>
+        ensures same { self.new ≡ self.old }
+        ensures within { IfSome result (λ found. found.count ≤ length self.old.kinds.types) }
+        ensures found { IfSome result (λ found. IsFound self.old.kinds key.now (take found.count self.old.kinds.types) found.stop) }
     {
-        self.inners.unmarked(key)
+        self.inners.found(key)
     }
 
-    /// Marks all inner types under a key.
-    pub fn mark(&mut self, key: &[u16]) -> Result<(), NoMemory>
-        ensures shapes { OnOk result (self.new.shapes ≡ self.old.shapes) }
-        ensures marks { OnOk result ((other : List ℕ) (inner : ℕ) → IsMarked self.new.kinds other inner → IsMarked self.old.kinds other inner ⊎ ((other ≡ key.now) × Contains (inners self.old.shapes) inner)) }
+    /// Keeps under a key what was found of the first inner types.
+    pub fn mark(&mut self, key: &[u16], found: Found) -> Result<(), NoMemory>
+        ensures shapes { self.new.shapes ≡ self.old.shapes }
+        ensures types { self.new.kinds.types ≡ self.old.kinds.types }
+        ensures marks { OnOk result ((other types : List ℕ) (stop : ℕ) → IsFound self.new.kinds other types stop
+            → IsFound self.old.kinds other types stop ⊎ ((other ≡ key.now) × (types ≡ take found.count self.old.kinds.types) × (stop ≡ found.stop))) }
     {
-        self.inners.mark(key)
+        self.inners.mark(key, found)
     }
 
     /// Whether `inner` is known to be among the inner types.
@@ -149,7 +153,7 @@ impl Shapes {
     /// Puts a shape on top; after want of memory the stack is as before.
     pub fn push(&mut self, shape: Shape) -> Result<(), NoMemory>
         ensures ok { OnOk result (self.new.shapes ≡ self.old.shapes ++ shape ∷ []) }
-        ensures marks { OnOk result ((key : List ℕ) (inner : ℕ) → IsMarked self.new.kinds key inner → IsMarked self.old.kinds key inner) }
+        ensures marks { OnOk result ((key types : List ℕ) (stop : ℕ) → IsFound self.new.kinds key types stop → IsFound self.old.kinds key types stop) }
         ensures err { OnErr result (self.new ≡ self.old) }
     {
         match shape.inner {
@@ -168,7 +172,7 @@ impl Shapes {
     fn push_known(&mut self, shape: Shape) -> Result<(), NoMemory>
         requires { (inner : ℕ) → shape.inner ≡ Some inner → Contains (inners self.old.shapes) inner }
         ensures ok { OnOk result (self.new.shapes ≡ self.old.shapes ++ shape ∷ []) }
-        ensures marks { OnOk result ((key : List ℕ) (inner : ℕ) → IsMarked self.new.kinds key inner → IsMarked self.old.kinds key inner) }
+        ensures marks { OnOk result ((key types : List ℕ) (stop : ℕ) → IsFound self.new.kinds key types stop → IsFound self.old.kinds key types stop) }
         ensures err { OnErr result (self.new ≡ self.old) }
     {
         let Ok(()) = self.entries.push(Entry {
@@ -188,7 +192,7 @@ impl Shapes {
     fn push_new(&mut self, shape: Shape, inner: u32) -> Result<(), NoMemory>
         requires { shape.inner ≡ Some inner }
         ensures ok { OnOk result (self.new.shapes ≡ self.old.shapes ++ shape ∷ []) }
-        ensures marks { OnOk result ((key : List ℕ) (inner : ℕ) → IsMarked self.new.kinds key inner → IsMarked self.old.kinds key inner) }
+        ensures marks { OnOk result ((key types : List ℕ) (stop : ℕ) → IsFound self.new.kinds key types stop → IsFound self.old.kinds key types stop) }
         ensures err { OnErr result (self.new ≡ self.old) }
     {
         let Ok(_) = self.places.insert(inner, self.inners.types().len()) else {
@@ -213,7 +217,7 @@ impl Shapes {
     /// Takes the top off, if there is one.
     pub fn pop(&mut self)
         ensures shapes { self.new.shapes ≡ take (length self.old.shapes - 1) self.old.shapes }
-        ensures marks { (key : List ℕ) (inner : ℕ) → IsMarked self.new.kinds key inner → IsMarked self.old.kinds key inner }
+        ensures marks { (key types : List ℕ) (stop : ℕ) → IsFound self.new.kinds key types stop → IsFound self.old.kinds key types stop }
     {
         let Some(entry) = self.entries.pop() else {
             return;

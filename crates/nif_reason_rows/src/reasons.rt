@@ -41,7 +41,7 @@ fn last_reason<R: Abort + AllocGlobal>(rt: &R, text: &[u8]) -> Result<u8, AllocE
     }
 }
 
-const ROWS: [(&[u8], u8); 74] = [
+const ROWS: [(&[u8], u8); 80] = [
     // C1 unknown type
     (
         b"<niftoolsxml><basic name='uint'/><basic name='byte'/><basic name='bool'/><basic name='float'/><basic name='Ref'/><struct name='T'><field name='A' type='none'/></struct></niftoolsxml>",
@@ -411,6 +411,36 @@ const ROWS: [(&[u8], u8); 74] = [
     (
         b"<niftoolsxml><basic name='uint'/><basic name='byte'/><basic name='bool'/><basic name='float'/><basic name='Ref'/><struct name='R'><field name='C' type='uint'/></struct><struct name='S'><field name='AB' type='R'/></struct><struct name='T'><field name='F' type='S'/><field name='A' type='uint' cond='F\\AB\\C'/><field name='B' type='uint' cond='F\\A\\BC'/></struct></niftoolsxml>",
         5,
+    ),
+    // C5 that a sibling's path has given
+    (
+        b"<niftoolsxml><basic name='uint'/><basic name='byte'/><basic name='bool'/><basic name='float'/><basic name='Ref'/><struct name='S'><field name='X' type='uint'/></struct><struct name='U'><field name='Y' type='uint'/></struct><niobject name='P'><field name='F' type='S'/><field name='F' type='U'/></niobject><niobject name='Q' inherit='P'><field name='A' type='uint' cond='F\\X'/></niobject><niobject name='T' inherit='P'><field name='A' type='uint' cond='F\\X'/></niobject></niftoolsxml>",
+        5,
+    ),
+    // a path beside one of another name that has given C5 in siblings
+    (
+        b"<niftoolsxml><basic name='uint'/><basic name='byte'/><basic name='bool'/><basic name='float'/><basic name='Ref'/><struct name='S'><field name='X' type='uint'/><field name='Z' type='uint'/></struct><struct name='U'><field name='Y' type='uint'/><field name='Z' type='uint'/></struct><niobject name='P'><field name='F' type='S'/><field name='F' type='U'/></niobject><niobject name='Q' inherit='P'><field name='A' type='uint' cond='F\\X'/></niobject><niobject name='R' inherit='P'><field name='A' type='uint' cond='F\\X'/></niobject><niobject name='T' inherit='P'><field name='A' type='uint' cond='F\\Z'/></niobject></niftoolsxml>",
+        99,
+    ),
+    // C6 of a parent's types behind C5 of those of a child
+    (
+        b"<niftoolsxml><basic name='uint'/><basic name='byte'/><basic name='bool'/><basic name='float'/><basic name='Ref'/><struct name='S'><field name='X' type='float'/></struct><struct name='U'><field name='Y' type='uint'/></struct><niobject name='P'><field name='F' type='S'/></niobject><niobject name='Q' inherit='P'><field name='F' type='U'/><field name='A' type='uint' cond='F\\X'/></niobject><niobject name='T' inherit='P'><field name='A' type='uint' cond='F\\X'/></niobject></niftoolsxml>",
+        6,
+    ),
+    // C5 of a child's type before C6 of a parent's
+    (
+        b"<niftoolsxml><basic name='uint'/><basic name='byte'/><basic name='bool'/><basic name='float'/><basic name='Ref'/><struct name='S'><field name='X' type='float'/></struct><struct name='U'><field name='Y' type='uint'/></struct><niobject name='P'><field name='F' type='S'/></niobject><niobject name='Q' inherit='P'><field name='A' type='uint' cond='F\\X'/></niobject><niobject name='T' inherit='P'><field name='F' type='U'/><field name='A' type='uint' cond='F\\X'/></niobject></niftoolsxml>",
+        5,
+    ),
+    // C5 of the third name before C6 of what it means
+    (
+        b"<niftoolsxml><basic name='uint'/><basic name='byte'/><basic name='bool'/><basic name='float'/><basic name='Ref'/><struct name='V'><field name='X' type='float'/></struct><struct name='S'><field name='G' type='V'/></struct><struct name='W'><field name='Y' type='uint'/></struct><struct name='U'><field name='G' type='W'/></struct><niobject name='P'><field name='F' type='S'/></niobject><niobject name='Q' inherit='P'><field name='A' type='uint' cond='F\\G\\X'/></niobject><niobject name='T' inherit='P'><field name='F' type='U'/><field name='A' type='uint' cond='F\\G\\X'/></niobject></niftoolsxml>",
+        5,
+    ),
+    // C6 of the last of several types
+    (
+        b"<niftoolsxml><basic name='uint'/><basic name='byte'/><basic name='bool'/><basic name='float'/><basic name='Ref'/><struct name='S'><field name='X' type='uint'/></struct><struct name='U'><field name='X' type='uint'/><field name='Y' type='uint'/></struct><struct name='V'><field name='X' type='byte'/></struct><struct name='W'><field name='X' type='float'/></struct><niobject name='P'><field name='F' type='S'/><field name='F' type='U'/><field name='F' type='V'/><field name='F' type='W'/></niobject><niobject name='T' inherit='P'><field name='A' type='uint' cond='F\\X'/></niobject></niftoolsxml>",
+        6,
     ),
 ];
 

@@ -1,5 +1,5 @@
 -- Lists of shapes that are alike, and what the next name of a path means.
-use Rattle.std.proofs.Common.{◌≡◌, ℕ, ◌<◌, ◌≤◌, ◌↔◌, ◌⊎◌, Bool, true, false, cond, not, ◌&&◌, ◌||◌, List, [], ◌∷◌, ◌++◌, length, map, flat_map, get_or, slice_get, drop, Contains, Option, Some, None, is_some, is_none, option_and_then, option_to_list, inl, inr, refl, sym, ap, subst, ◌∙◌, true≢false, arith}
+use Rattle.std.proofs.Common.{◌≡◌, ℕ, ◌+◌, ◌*◌, ◌<◌, ◌≤◌, ◌↔◌, ◌⊎◌, Bool, true, false, cond, not, ◌&&◌, ◌||◌, List, [], ◌∷◌, ◌++◌, length, map, flat_map, get_or, slice_get, drop, Contains, Option, Some, None, is_some, is_none, option_and_then, option_to_list, inl, inr, refl, sym, ap, subst, ◌∙◌, true≢false, arith}
 use Rattle.std.specs.List.{list_any, list_all}
 use Rattle.std.specs.Option.{option_map_or}
 use Rattle.std.proofs.lemmas.Grind.{flat_map-append}
@@ -18,6 +18,7 @@ use Rattle.nif_schema.specs.Paths.{Meaning, OfField, OfBits, goes_on, has_names,
 use Rattle.nif_schema.specs.declared.faults.Closed.TheVariants.{C5, C6}
 use Rattle.nif_reasons.specs.Shaped.{shape, field_shape, inner_of, with_names, lead, AreInsides}
 use Rattle.nif_reasons.specs.Levels.{held_at, IsAdded, IsLevel, HasLevel}
+use Rattle.nif_reasons.specs.Marks.{rest_stop}
 
 abbrev Same : List ℕ → List ℕ → Type 0
 Same xs ys = (k : ℕ) → Contains xs k ↔ Contains ys k
@@ -288,16 +289,31 @@ module _ (S : Schema) where
     reason-stop name names e =
         ap (λ b. cond b (cond (list_any (λ m. is_empty (inside S name m)) ms) (Some C5) (rest_reason S (flat_map (inside S name) ms) names)) (Some C6)) (sym (go-on ms) ∙ sym is.inner ∙ e)
 
-    pub reason-lacks : (name : Name) (names : List Name) → list_all (λ s. is_some s.inner) level ≡ true → HasLevel S ms name None → rest_reason S ms (name ∷ names) ≡ Some C5
-    reason-lacks name names e lacks =
-        ap (λ b. cond b (cond (list_any (λ m. is_empty (inside S name m)) ms) (Some C5) (rest_reason S (flat_map (inside S name) ms) names)) (Some C6)) (sym (go-on ms) ∙ sym is.inner ∙ e)
-        ∙ ap (λ b. cond b (Some C5) (rest_reason S (flat_map (inside S name) ms) names)) lacks
+    pub stop-end : rest_stop S ms [] ≡ cond (list_all (λ s. s.number) level) 0 1
+    stop-end = sym (ap (λ b. cond b 0 1) (is.numbers ∙ all-end ms))
 
-    pub reason-next : (name : Name) (names : List Name) (next : List Shape) → list_all (λ s. is_some s.inner) level ≡ true → HasLevel S ms name (Some next)
-        → rest_reason S ms (name ∷ names) ≡ rest_reason S (flat_map (inside S name) ms) names
-    reason-next name names next e has =
-        ap (λ b. cond b (cond (list_any (λ m. is_empty (inside S name m)) ms) (Some C5) (rest_reason S (flat_map (inside S name) ms) names)) (Some C6)) (sym (go-on ms) ∙ sym is.inner ∙ e)
-        ∙ ap (λ b. cond b (Some C5) (rest_reason S (flat_map (inside S name) ms) names)) has.0
+    module _ (name : Name) (names : List Name) where
+      most : ℕ
+      most = 2 * length (name ∷ names)
+
+      going : (b : Bool) → list_all (λ s. is_some s.inner) level ≡ b → rest_stop S ms (name ∷ names)
+          ≡ cond b (cond (list_any (λ m. is_empty (inside S name m)) ms) most (rest_stop S (flat_map (inside S name) ms) names)) (most + 1)
+      unfolding most
+      going b e = ap (λ b. cond b (cond (list_any (λ m. is_empty (inside S name m)) ms) (2 * length (name ∷ names)) (rest_stop S (flat_map (inside S name) ms) names)) (2 * length (name ∷ names) + 1))
+          (sym (go-on ms) ∙ sym is.inner ∙ e)
+
+      pub stop-stop : list_all (λ s. is_some s.inner) level ≡ false → rest_stop S ms (name ∷ names) ≡ 2 * length (name ∷ names) + 1
+      unfolding most
+      stop-stop e = going false e
+
+      pub stop-lacks : list_all (λ s. is_some s.inner) level ≡ true → HasLevel S ms name None → rest_stop S ms (name ∷ names) ≡ 2 * length (name ∷ names)
+      unfolding most
+      stop-lacks e lacks = going true e ∙ ap (λ b. cond b (2 * length (name ∷ names)) (rest_stop S (flat_map (inside S name) ms) names)) lacks
+
+      pub stop-next : (next : List Shape) → list_all (λ s. is_some s.inner) level ≡ true → HasLevel S ms name (Some next)
+          → rest_stop S ms (name ∷ names) ≡ rest_stop S (flat_map (inside S name) ms) names
+      unfolding most
+      stop-next next e has = going true e ∙ ap (λ b. cond b (2 * length (name ∷ names)) (rest_stop S (flat_map (inside S name) ms) names)) has.0
 
   -- the first name
   pub path-none : (fields : List Field) (first : Name) (names : List Name) → map (shape S) (fields_named first fields) ≡ []

@@ -2,10 +2,10 @@ mod JumpLemmas
 mod LevelLemmas
 mod Lists
 mod OwnLemmas
-mod PassLemmas
 mod PathLemmas
 mod ReasonLemmas
 mod ShapeLemmas
+mod StopLemmas
 mod TableLemmas
 mod TreeLemmas
 mod WayLemmas

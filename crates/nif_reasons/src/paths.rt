@@ -1,17 +1,19 @@
 //! Why a path closes a type.
-ghost use Rattle.std.specs.Prelude.{◌≡◌, ℕ, ◌<◌, List, [], ◌∷◌, ◌++◌, length, drop, ◌&&◌, ◌||◌, IfOk, OnOk, bytes_eq, codes, if◌then◌else◌, None, Some};
+ghost use Rattle.std.specs.Prelude.{◌≡◌, ◌+◌, ◌<◌, ◌≤◌, List, [], ◌∷◌, ◌++◌, length, take, drop, ◌&&◌, ◌||◌, IfOk, OnOk, IsTrue, IsFalse, bytes_eq, codes, if◌then◌else◌, None, Some};
 ghost use Rattle.std.specs.List.{list_all};
 ghost use Rattle.nif_schema.specs.Declaration as plain;
 ghost use Rattle.nif_schema.specs.Schema.{Schema};
-ghost use Rattle.nif_names.specs.Marks.{IsMarked};
-ghost use Rattle.nif_schema.specs.Paths.{Meaning, is_header_path, path_reason, rest_reason};
+ghost use Rattle.nif_names.specs.Shapes.{inners};
+ghost use Rattle.nif_names.specs.Tables.{held, kinds};
+ghost use Rattle.nif_schema.specs.Declaration.{Name};
+ghost use Rattle.nif_schema.specs.Paths.{Meaning, is_header_path, path_reason};
 ghost use Rattle.nif_schema.specs.declared.faults.Closed.TheVariants.{C5, C6};
 ghost use Rattle.nif_reasons.specs.Shaped.{AreInsides};
 ghost use Rattle.nif_reasons.specs.Levels.{IsLevel, HasAdded, HasNext, held_at};
-ghost use Rattle.nif_reasons.specs.Marks.{Gives, IsLine, types_reason, key_of, key_of_name};
+ghost use Rattle.nif_reasons.specs.Marks.{Gives, HasMarks, IsLine, rest_stop, types_stop, types_reason, stop_reason, key_of, key_of_name};
 
 use nif_base::{NoMemory, Word};
-use nif_names::{Names, Shapes};
+use nif_names::{Found, Names, Shapes};
 use nif_schema::{Closed, Path};
 use std::alloc::Global;
 
@@ -97,66 +99,146 @@ fn next_level(
     Ok(Some(next))
 }
 
-/// Why the names of a path from a place on close a type, where the names before it mean these.
-fn level_reason(
+/// Where the names of a path from a place on stop, where the names before it mean these.
+fn level_stop(
     alloc: Global,
     tables: &[Names],
     mut level: Shapes,
     path: &Path,
     from: u32,
-) -> Result<Option<Closed>, NoMemory>
-    ensures { IfOk result (λ reason. (schema : Schema) (meanings : List Meaning) → AreInsides schema tables.now → IsLevel schema meanings level.shapes → reason ≡ rest_reason schema meanings (drop from path.now)) }
+) -> Result<u64, NoMemory>
+    ensures { IfOk result (λ stop. (schema : Schema) (meanings : List Meaning) → AreInsides schema tables.now → IsLevel schema meanings level.shapes → stop ≡ rest_stop schema meanings (drop from path.now)) }
 {
     for place in from..path.len() {
+        let left = 2 * u64::from(path.len() - place);
         if !level.all_inner() {
-            return Ok(Some(Closed::C6));
+            return Ok(left + 1);
         }
         level = match next_level(alloc, tables, level.inners(), path.get(place)) {
             Ok(Some(next)) => next,
-            Ok(None) => return Ok(Some(Closed::C5)),
+            Ok(None) => return Ok(left),
             Err(fault) => return Err(fault),
         };
     }
     if level.all_numbers() {
-        return Ok(None);
+        return Ok(0);
     }
-    Ok(Some(Closed::C6))
+    Ok(1)
 }
 
-/// Why the names of a path after the first, which means fields of these types, close a type.
-fn types_reason(
-    alloc: Global,
-    tables: &[Names],
-    types: &[u32],
-    path: &Path,
-) -> Result<Option<Closed>, NoMemory>
+/// Where the names of a path after the first stop, which means fields of these types.
+fn types_stop(alloc: Global, tables: &[Names], types: &[u32], path: &Path) -> Result<u64, NoMemory>
     requires { 1 < length path.now }
-    ensures { IfOk result (λ reason. (schema : Schema) → AreInsides schema tables.now → reason ≡ types_reason schema types.now (drop 1 path.now)) }
+    ensures { IfOk result (λ stop. (schema : Schema) → AreInsides schema tables.now → stop ≡ types_stop schema types.now (drop 1 path.now)) }
 {
     match next_level(alloc, tables, types, path.get(1)) {
-        Ok(Some(level)) => level_reason(alloc, tables, level, path, 2),
-        Ok(None) => Ok(Some(Closed::C5)),
+        Ok(Some(level)) => level_stop(alloc, tables, level, path, 2),
+        Ok(None) => Ok(2 * u64::from(path.len() - 1)),
         Err(fault) => Err(fault),
     }
 }
 
-/// Why the names of a path after the first, which means these, close a type. Types that are marked under those names
-/// aren't looked at.
+/// The reason of a stop.
+fn stop_reason(stop: u64) -> Option<Closed>
+    ensures { result ≡ stop_reason stop }
+{
+    if stop == 0 {
+        return None;
+    }
+    if stop % 2 == 0 {
+        return Some(Closed::C5);
+    }
+    Some(Closed::C6)
+}
+
+/// The first half of the types that are left, of which there is one at least.
+fn next_half(types: &[u32], count: usize) -> &[u32]
+    requires { count < length types.now }
+    ensures some { 0 < length result.now }
+    ensures within { count + length result.now ≤ length types.now }
+    ensures next { take count types.now ++ result.now ≡ take (count + length result.now) types.now }
+{
+    let left = types.len() - count;
+    &types[count..types.len() - left / 2]
+}
+
+/// Whether what was found of the first types is what there is to find of all: because they are all, or because one of
+/// them lacks the second name of the path, than which nothing comes first.
+fn is_settled(types: &[u32], path: &Path, found: Found) -> bool
+    requires { 1 < length path.now }
+    ensures settled { IsTrue result → (schema : Schema) → types_stop schema (take found.count types.now) (drop 1 path.now) ≡ found.stop → types_stop schema types.now (drop 1 path.now) ≡ found.stop }
+    ensures open { IsFalse result → found.count < length types.now }
+{
+    if found.stop == 2 * u64::from(path.len() - 1) {
+        return true;
+    }
+    found.count >= types.len()
+}
+
+/// Looks at half of the types that weren't looked at yet.
+fn look_further(
+    alloc: Global,
+    tables: &[Names],
+    types: &[u32],
+    path: &Path,
+    found: Found,
+) -> Result<Found, NoMemory>
+    requires many { 1 < length path.now }
+    requires some { found.count < length types.now }
+    ensures within { IfOk result (λ further. (found.count < further.count) × (further.count ≤ length types.now)) }
+    ensures stop { IfOk result (λ further. (schema : Schema) → AreInsides schema tables.now
+        → types_stop schema (take found.count types.now) (drop 1 path.now) ≡ found.stop → types_stop schema (take further.count types.now) (drop 1 path.now) ≡ further.stop) }
+{
+    let half = next_half(types, found.count);
+    match types_stop(alloc, tables, half, path) {
+        Ok(stop) => Ok(Found {
+            count: found.count + half.len(),
+            stop: found.stop.max(stop),
+        }),
+        Err(fault) => Err(fault),
+    }
+}
+
+/// What was found under a key of the types of a first name, or that nothing was.
+fn found_before(line: &mut Names, first: &[u8], key: &[u16]) -> Found
+    ensures same { line.new ≡ line.old }
+    ensures within { result.count ≤ length (kinds line.old first.now).types }
+    ensures found { (schema : Schema) (names : List Name) → key.now ≡ key_of names → HasMarks schema line.old
+        → types_stop schema (take result.count (kinds line.old first.now).types) names ≡ result.stop }
+{
+    match line.found(first, key) {
+        Some(found) => found,
+        None => Found { count: 0, stop: 0 },
+    }
+}
+
+/// Why the names of a path after the first close a type, where the first means fields of some types. What is found of
+/// the types is kept under the names: a later path of the same names looks only at the types that were put there since,
+/// and where some were taken off, at no more others than were. So halves are looked at, and not all at once.
 fn later_reason(
     alloc: Global,
     tables: &[Names],
-    shapes: &Shapes,
+    line: &mut Names,
+    first: &[u8],
     path: &Path,
     key: &[u16],
 ) -> Result<Option<Closed>, NoMemory>
-    requires { 1 < length path.now }
-    ensures { IfOk result (λ reason. (schema : Schema) (meanings : List Meaning) → AreInsides schema tables.now → IsLevel schema meanings shapes.now.shapes
-        → ((k : ℕ) → IsMarked shapes.now.kinds key.now k → types_reason schema (k ∷ []) (drop 1 path.now) ≡ None) → reason ≡ rest_reason schema meanings (drop 1 path.now)) }
+    requires many { 1 < length path.now }
+    requires key { key.now ≡ key_of (drop 1 path.now) }
+    ensures { IfOk result (λ reason. (schema : Schema) (fields : List plain.Field) → AreInsides schema tables.now → IsLine schema fields line.old
+        → (reason ≡ types_reason schema (inners (held line.old first.now)) (drop 1 path.now)) × IsLine schema fields line.new) }
 {
-    if !shapes.all_inner() {
-        return Ok(Some(Closed::C6));
+    let mut found = found_before(line, first, key);
+    'further: while !is_settled(line.inners(first), path, found) {
+        found = match look_further(alloc, tables, line.inners(first), path, found) {
+            Ok(further) => further,
+            Err(fault) => return Err(fault),
+        };
+        let Ok(()) = line.mark(first, key, found) else {
+            return Err(NoMemory);
+        };
     }
-    types_reason(alloc, tables, shapes.unmarked(key), path)
+    Ok(stop_reason(found.stop))
 }
 
 /// Why a path that no field behind it declares closes a type.
@@ -177,38 +259,6 @@ fn name_reason(shapes: &Shapes) -> Option<Closed>
         return None;
     }
     Some(Closed::C6)
-}
-
-/// Why a path closes a type, behind the fields of a line with the marks that it has.
-fn marked_reason(
-    alloc: Global,
-    tables: &[Names],
-    line: &Names,
-    path: &Path,
-    key: &[u16],
-) -> Result<Option<Closed>, NoMemory>
-    requires { key.now ≡ key_of (drop 1 path.now) }
-    ensures { IfOk result (λ reason. (schema : Schema) (fields : List plain.Field) → AreInsides schema tables.now → IsLine schema fields line.now → reason ≡ path_reason schema fields path.now) }
-{
-    let count = path.len();
-    let Some(shapes) = line.look(path.get(0).bytes()) else {
-        return Ok(header_reason(path));
-    };
-    if count == 1 {
-        return Ok(name_reason(shapes));
-    }
-    later_reason(alloc, tables, shapes, path, key)
-}
-
-/// Marks the types of a first name from which the rest of a path gives no reason.
-fn mark_passed(line: &mut Names, path: &Path, key: &[u16]) -> Result<(), NoMemory>
-    requires { key.now ≡ key_of (drop 1 path.now) }
-    ensures { OnOk result ((schema : Schema) (fields : List plain.Field) → path_reason schema fields path.now ≡ None → IsLine schema fields line.old → IsLine schema fields line.new) }
-{
-    if path.len() == 1 {
-        return Ok(());
-    }
-    line.mark(path.get(0).bytes(), key)
 }
 
 /// Puts a name behind the others of a key.
@@ -239,8 +289,7 @@ fn rest_key(alloc: Global, path: &Path) -> Result<Vec<u16>, NoMemory>
     Ok(key)
 }
 
-/// Why a path closes a type, behind the fields of a line. Where it gives no reason, the types of its first name are
-/// marked under the names after it: a later path of the same names looks only at types that are put there after that.
+/// Why a path closes a type, behind the fields of a line.
 pub fn path_reason(
     alloc: Global,
     tables: &[Names],
@@ -249,17 +298,19 @@ pub fn path_reason(
 ) -> Result<Option<Closed>, NoMemory>
     ensures { IfOk result (Gives (λ schema fields. path_reason schema fields path.now) tables.now line.old line.new) }
 {
-    let key = match rest_key(alloc, path) {
-        Ok(key) => key,
-        Err(fault) => return Err(fault),
+    let count = path.len();
+    let first = path.get(0).bytes();
+    let Some(shapes) = line.look(first) else {
+        return Ok(header_reason(path));
     };
-    match marked_reason(alloc, tables, line, path, key.as_slice()) {
-        Ok(None) => {}
-        Ok(Some(reason)) => return Ok(Some(reason)),
-        Err(fault) => return Err(fault),
+    if count == 1 {
+        return Ok(name_reason(shapes));
     }
-    match mark_passed(line, path, key.as_slice()) {
-        Ok(()) => Ok(None),
+    if !shapes.all_inner() {
+        return Ok(Some(Closed::C6));
+    }
+    match rest_key(alloc, path) {
+        Ok(key) => later_reason(alloc, tables, line, first, path, key.as_slice()),
         Err(fault) => Err(fault),
     }
 }

@@ -1,4 +1,4 @@
-use Rattle.std.proofs.Common.{◌≡◌, ◌++◌, ◌∷◌, [], List, cond, bytes_eq, OnOk, Ok, Err, Result, sym, ap, ◌∙◌}
+use Rattle.std.proofs.Common.{◌≡◌, ◌++◌, ◌∷◌, [], cond, bytes_eq, OnOk, Ok, Err, Result, sym, ap, ◌∙◌}
 use Rattle.std.specs.Option.{option_map_or}
 use Rattle.std.proofs.Common.{◌≢◌, Option, Some, None, IfSome, is_some, true, false, refl}
 use denote.Bor.{Bor}

@@ -7,4 +7,4 @@ on (Ok x) p f = f p
 on (Err e) p f = tt
 
 pub returns-clause-marks : goal.returns-clause-marks
-returns-clause-marks c = on c.push.result c.push.ensures.marks (λ says has first names k is. has first names k (says first (key_of names) k is))
+returns-clause-marks c = on c.push.result c.push.ensures.marks (λ says has first names types stop is. has first names types stop (says first (key_of names) types stop is))

@@ -6,7 +6,7 @@ use Rattle.nif_schema.specs.Declaration.{field}
 use Rattle.nif_schema.specs.Schema.{line}
 use Rattle.nif_schema.specs.declared.fields.Field as kept
 use Rattle.nif_reasons.specs.Marks.{IsLine}
-use Rattle.nif_reasons.proofs.PassLemmas.{IsLine-none}
+use Rattle.nif_reasons.proofs.StopLemmas.{IsLine-none}
 use Rattle.nif_reasons.proofs.WayLemmas.{parent-ends}
 use Rattle.nif_reasons.proofs.ways.line_above.Goals as goal
 

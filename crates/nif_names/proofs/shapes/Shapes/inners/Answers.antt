@@ -4,8 +4,8 @@ use Rattle.nif_names.specs.Kept.{new_inner}
 use Rattle.nif_names.proofs.ShapeLemmas.{inners-new, new-inners}
 use Rattle.nif_names.proofs.shapes.Shapes.inners.Goals as goal
 
-pub returns : goal.returns
-returns c =
+pub returns-clause-same : goal.returns-clause-same
+returns-clause-same c =
     let entries = c.self.inside.entries.items in
     let given : c.types.result.now ≡ flat_map new_inner entries = c.types.ensures ∙ c.self.invariant.new in
     λ k. (

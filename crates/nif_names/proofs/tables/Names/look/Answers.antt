@@ -1,7 +1,7 @@
 use Rattle.std.proofs.Common.{ℕ, Vec, Global, [], map, bytes_eq, refl, sym, ap, ◌∙◌}
 use Rattle.std.specs.Option.{option_map_or}
 use Rattle.nif_names.specs.Shapes.{Stack}
-use Rattle.nif_names.specs.Tables.{held, kinds, stack_of}
+use Rattle.nif_names.specs.Tables.{held, stack_of}
 use Rattle.nif_names.proofs.TableLemmas.{stack-at, stack-none, list_any-map}
 use Rattle.nif_names.proofs.tables.Names.look.Goals as goal
 
@@ -29,10 +29,3 @@ returns-else-is_empty-clause-value c =
     let bytes = λ (k : Vec ℕ Global). k.items in
     let there = stack-at bytes c.args.name.now c.index-shapes.result.now c.self.inside.names.keys c.self.inside.stacks.items c.in_ok-place.place (sym c.in_ok-place.ensures.index) c.self.invariant in
     ap (λ (s : Stack). s.shapes) (c.index-shapes.ensures ∙ sym there ∙ ap (λ t. stack_of c.args.name.now t.names t.stacks) c.self.view_is)
-
-pub returns-else-is_empty-clause-marks : goal.returns-else-is_empty-clause-marks
-unfolding kinds
-returns-else-is_empty-clause-marks c =
-    let bytes = λ (k : Vec ℕ Global). k.items in
-    let there = stack-at bytes c.args.name.now c.index-shapes.result.now c.self.inside.names.keys c.self.inside.stacks.items c.in_ok-place.place (sym c.in_ok-place.ensures.index) c.self.invariant in
-    ap (λ (s : Stack). s.kinds) (c.index-shapes.ensures ∙ sym there ∙ ap (λ t. stack_of c.args.name.now t.names t.stacks) c.self.view_is)

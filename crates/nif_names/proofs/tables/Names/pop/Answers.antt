@@ -1,7 +1,7 @@
 use Rattle.std.proofs.Common.{◌≡◌, ℕ, ◌-◌, List, Vec, Global, [], map, take, length, cond, Bool, true, false, bytes_eq, refl, sym, ap, subst, ◌∙◌}
 use Rattle.std.proofs.lemmas.Slice.Eq.{bytes_eq-Decides}
 use Rattle.nif_names.specs.declared.shapes.Shape.{Shape}
-use Rattle.nif_names.specs.Marks.{IsMarked}
+use Rattle.nif_names.specs.Marks.{IsFound}
 use Rattle.nif_names.specs.Shapes.{Stack}
 use Rattle.nif_names.specs.Tables.{Table, held, kinds, stack_of, no_stack}
 use Rattle.nif_names.proofs.TableLemmas.{shapes-change, change-back, stack-none, list_any-map}
@@ -43,10 +43,10 @@ returns-clause-shapes c = λ other.
 
 pub returns-clause-marks : goal.returns-clause-marks
 unfolding kinds
-returns-clause-marks c = λ other key inner is.
+returns-clause-marks c = λ other key ts stop is.
     let bytes = λ (k : Vec ℕ Global). k.items in
     let i = c.self.inside in
     let given = c.index_mut-stack.result.now in
-    subst (λ t. IsMarked (stack_of other t.names t.stacks).kinds key inner) c.self.view_is
+    subst (λ t. IsFound (stack_of other t.names t.stacks).kinds key ts stop) c.self.view_is
     (change-back bytes c.args.name.now c.pop.new.self given other i.names.keys i.stacks.items c.in-Some.place (sym c.in-Some.ensures.index) c.self.invariant
-    (λ s. IsMarked s.kinds key inner) (λ m. subst (λ (s : Stack). IsMarked s.kinds key inner) c.index_mut-stack.ensures.value (c.pop.ensures.marks key inner m)) is)
+    (λ s. IsFound s.kinds key ts stop) (λ m. subst (λ (s : Stack). IsFound s.kinds key ts stop) c.index_mut-stack.ensures.value (c.pop.ensures.marks key ts stop m)) is)

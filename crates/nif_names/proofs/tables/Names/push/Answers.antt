@@ -1,7 +1,7 @@
 use Rattle.std.proofs.Common.{ℕ, ◌∷◌, ◌++◌, List, Vec, Global, [], cond, bytes_eq, sym, ap, subst, ◌∙◌, Ok, Err, Result, OnOk}
 use Rattle.std.specs.List.{list_any}
 use Rattle.nif_names.specs.declared.shapes.Shape.{Shape}
-use Rattle.nif_names.specs.Marks.{IsMarked}
+use Rattle.nif_names.specs.Marks.{IsFound}
 use Rattle.nif_names.specs.Shapes.{Stack}
 use Rattle.nif_names.specs.Tables.{held, kinds, stack_of}
 use Rattle.nif_names.proofs.TableLemmas.{shapes-change, change-back, list_any-map}
@@ -35,7 +35,7 @@ returns-clause-marks c =
     let bytes = λ (k : Vec ℕ Global). k.items in
     let i = c.self.inside in
     let given = c.index_mut-stack.result.now in
-    on c.push.result c.push.ensures.marks (λ says other key inner is.
-    subst (λ t. IsMarked (stack_of other t.names t.stacks).kinds key inner) c.self.view_is
+    on c.push.result c.push.ensures.marks (λ says other key ts stop is.
+    subst (λ t. IsFound (stack_of other t.names t.stacks).kinds key ts stop) c.self.view_is
     (change-back bytes c.args.name.now c.push.new.self given other i.names.keys i.stacks.items c.in-Some.place (sym c.in-Some.ensures.index) c.self.invariant
-    (λ s. IsMarked s.kinds key inner) (λ m. subst (λ (s : Stack). IsMarked s.kinds key inner) c.index_mut-stack.ensures.value (says key inner m)) is))
+    (λ s. IsFound s.kinds key ts stop) (λ m. subst (λ (s : Stack). IsFound s.kinds key ts stop) c.index_mut-stack.ensures.value (says key ts stop m)) is))

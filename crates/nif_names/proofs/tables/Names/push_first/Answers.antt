@@ -1,7 +1,7 @@
 use Rattle.std.proofs.Common.{◌≡◌, ℕ, ◌∷◌, ◌++◌, List, Vec, Global, [], map, length, cond, bytes_eq, if◌then◌else◌, false, sym, ap, subst, ◌∙◌, arith}
 use Rattle.std.specs.List.{list_any}
 use Rattle.std.proofs.lemmas.List.{map-append, length-append, length-map}
-use Rattle.nif_names.specs.Marks.{IsMarked}
+use Rattle.nif_names.specs.Marks.{IsFound}
 use Rattle.nif_names.specs.Shapes.{Stack}
 use Rattle.nif_names.specs.Tables.{held, kinds, stack_of}
 use Rattle.nif_names.proofs.TableLemmas.{shapes-first, first-back, list_any-map}
@@ -45,7 +45,7 @@ returns-clause-shapes c = λ other.
 
 pub returns-clause-marks : goal.returns-clause-marks
 unfolding kinds
-returns-clause-marks c = λ other key inner is.
+returns-clause-marks c = λ other key ts stop is.
     let i = c.self.inside in
     let keys = i.names.keys in
     let name = c.in-Ok-from_slice.name in
@@ -53,8 +53,8 @@ returns-clause-marks c = λ other key inner is.
     let grown = keys_after keys c.insert.new.self.keys name c.args.name.now c.in-Ok-from_slice.ensures.items none c.in-Ok-insert.ensures.keys in
     let names : map (λ k. k.items) c.insert.new.self.keys ≡ map (λ k. k.items) keys ++ c.args.name.now ∷ [] =
     ap (map (λ k. k.items)) grown ∙ map-append (λ k. k.items) keys (name ∷ []) ∙ ap (λ n. map (λ k. k.items) keys ++ n ∷ []) c.in-Ok-from_slice.ensures.items in
-    subst (λ t. IsMarked (stack_of other t.names t.stacks).kinds key inner) c.self.view_is
+    subst (λ t. IsFound (stack_of other t.names t.stacks).kinds key ts stop) c.self.view_is
     (first-back (λ (k : Vec ℕ Global). k.items) c.args.name.now c.push.new.self other (map (λ k. k.items) keys) i.stacks.items none (length-map keys (λ (k : Vec ℕ Global). k.items) ∙ c.self.invariant)
-    (λ s. IsMarked s.kinds key inner) (λ m. subst (λ (s : Stack). IsMarked s.kinds key inner) c.new-stack.ensures (c.in-Ok.ensures.marks key inner m))
-    (subst (λ (ss : List Stack). IsMarked (stack_of other (map (λ k. k.items) keys ++ c.args.name.now ∷ []) ss).kinds key inner) c.in-Ok-push.ensures.items
-    (subst (λ ns. IsMarked (stack_of other ns c.push-2.new.self.items).kinds key inner) names is)))
+    (λ s. IsFound s.kinds key ts stop) (λ m. subst (λ (s : Stack). IsFound s.kinds key ts stop) c.new-stack.ensures (c.in-Ok.ensures.marks key ts stop m))
+    (subst (λ (ss : List Stack). IsFound (stack_of other (map (λ k. k.items) keys ++ c.args.name.now ∷ []) ss).kinds key ts stop) c.in-Ok-push.ensures.items
+    (subst (λ ns. IsFound (stack_of other ns c.push-2.new.self.items).kinds key ts stop) names is)))

@@ -1,11 +1,12 @@
 use Rattle.std.proofs.Common.{◌≡◌, List, drop}
 use Rattle.nif_schema.specs.Schema.{Schema}
-use Rattle.nif_schema.specs.Paths.{Meaning, rest_reason}
+use Rattle.nif_schema.specs.Paths.{Meaning}
 use Rattle.nif_reasons.specs.Shaped.{AreInsides}
 use Rattle.nif_reasons.specs.Levels.{IsLevel}
-use Rattle.nif_reasons.proofs.paths.level_reason.Given as goal
+use Rattle.nif_reasons.specs.Marks.{rest_stop}
+use Rattle.nif_reasons.proofs.paths.level_stop.Given as goal
 
 abbrev pub invariant-loop-place : goal.invariant-loop-place
 invariant-loop-place l =
     (schema : Schema) (first : List Meaning) → AreInsides schema l.tables → IsLevel schema first l.initial.level.shapes
-    → (meanings : List Meaning) × IsLevel schema meanings l.level.shapes × (rest_reason schema first (drop l.from l.path) ≡ rest_reason schema meanings (drop l.place l.path))
+    → (meanings : List Meaning) × IsLevel schema meanings l.level.shapes × (rest_stop schema first (drop l.from l.path) ≡ rest_stop schema meanings (drop l.place l.path))

@@ -1,0 +1,39 @@
+use Rattle.std.proofs.Common.{◌≡◌, ◌*◌, [], ◌∷◌, length, drop, get_or, Some, None, cond, flat_map, sym, ap, subst, ◌∙◌, arith}
+use Rattle.std.proofs.lemmas.List.{length-drop}
+use Rattle.nif_names.specs.Shapes.{Alike}
+use Rattle.nif_schema.specs.Declaration.{Name}
+use Rattle.nif_reasons.specs.Levels.{HasNext}
+use Rattle.nif_reasons.specs.Marks.{rest_stop, types_stop}
+use Rattle.nif_reasons.specs.Shaped.{lead}
+use Rattle.nif_reasons.proofs.Lists.{drop-at}
+use Rattle.nif_reasons.proofs.LevelLemmas.{held-leads, held-lacks}
+use Rattle.nif_reasons.proofs.ReasonLemmas.{on}
+use Rattle.nif_reasons.proofs.paths.types_stop.Goals as goal
+
+pub returns-in-Ok-Some : goal.returns-in-Ok-Some
+returns-in-Ok-Some c = on c.level_stop.result c.level_stop.ensures (λ stop says schema insides.
+    let p = c.args.path.now in
+    let name : Name = get_or p 1 [] in
+    let ts = c.args.types.now in
+    let tables = c.args.tables.now in
+    let next : HasNext tables name ts (Some c.in-Ok-Some.level) =
+    subst (HasNext tables name ts) c.in-Ok-Some.field-0-is (subst (λ n. HasNext tables n ts c.in-Ok-Some.field-0) c.get.ensures c.in-Ok-Some.ensures) in
+    says schema (flat_map (lead schema name) ts) insides (subst (Alike c.in-Ok-Some.level.shapes) (held-leads schema name tables insides ts) next.alike)
+    ∙ sym (ap (types_stop schema ts) (drop-at p 1 [] c.requires)
+    ∙ ap (λ b. cond b (2 * length (name ∷ drop 2 p)) (rest_stop schema (flat_map (lead schema name) ts) (drop 2 p))) (sym (held-lacks schema name tables insides ts) ∙ next.found)))
+
+pub returns-in-Ok-None : goal.returns-in-Ok-None
+returns-in-Ok-None c = λ schema insides.
+    let p = c.args.path.now in
+    let name : Name = get_or p 1 [] in
+    let ts = c.args.types.now in
+    let tables = c.args.tables.now in
+    let some : HasNext tables name ts None =
+    subst (HasNext tables name ts) c.in-Ok-None.field-0-is (subst (λ n. HasNext tables n ts c.in-Ok-None.field-0) c.get.ensures c.in-Ok-None.ensures) in
+    let stops : types_stop schema ts (drop 1 p) ≡ 2 * length (name ∷ drop 2 p) = ap (types_stop schema ts) (drop-at p 1 [] c.requires)
+    ∙ ap (λ b. cond b (2 * length (name ∷ drop 2 p)) (rest_stop schema (flat_map (lead schema name) ts) (drop 2 p))) (sym (held-lacks schema name tables insides ts) ∙ some) in
+    let left = length-drop 2 p in
+    let len = c.len.ensures.value in
+    let from = c.from.ensures in
+    let many = c.requires in
+    omega (arith, stops, left, len, from, many)
