@@ -17,8 +17,8 @@ use Rattle.nif_schema.specs.Uses.{named, what_at}
 use Rattle.nif_schema.specs.Paths.{Meaning, OfField, OfBits, goes_on, has_names, inside, inside_type, is_empty, ends_path, rest_reason, path_reason, fields_named, is_header_path}
 use Rattle.nif_schema.specs.declared.faults.Closed.TheVariants.{C5, C6}
 use Rattle.nif_reasons.specs.Shaped.{shape, field_shape, inner_of, with_names, lead, AreInsides}
-use Rattle.nif_reasons.specs.Levels.{held_at, IsAdded, IsLevel, HasLevel}
-use Rattle.nif_reasons.specs.Marks.{rest_stop}
+use Rattle.nif_reasons.specs.Levels.{held_at, IsAdded, IsEnded, IsLevel, HasLevel}
+use Rattle.nif_reasons.specs.Marks.{rest_stop, types_stop}
 
 abbrev Same : List ℕ → List ℕ → Type 0
 Same xs ys = (k : ℕ) → Contains xs k ↔ Contains ys k
@@ -279,6 +279,17 @@ module _ (S : Schema) where
   pub all-end : (ms : List Meaning) → list_all (λ s. s.number) (map (shape S) ms) ≡ list_all (ends_path S) ms
   all-end [] = refl
   all-end (m ∷ ms) = ap (λ b. b && list_all (λ s. s.number) (map (shape S) ms)) (ends m) ∙ ap (λ b. ends_path S m && b) (all-end ms)
+
+  -- the last name of a path
+  module _ (name : Name) (tables : List Table) (insides : AreInsides S tables) (ks : List ℕ) where
+    pub last-ends : (stop : ℕ) → IsEnded tables name ks stop → stop ≡ types_stop S ks (name ∷ [])
+    last-ends stop is =
+        is.numbers
+        ∙ ap (λ b. cond b 0 1) (ap (list_all (λ s. s.number)) (held-leads S name tables insides ks) ∙ all-end (flat_map (lead S name) ks))
+        ∙ sym (ap (λ b. cond b 2 (cond (list_all (ends_path S) (flat_map (lead S name) ks)) 0 1)) (sym (held-lacks S name tables insides ks) ∙ is.found))
+
+    pub last-lacks : list_any (λ k. is_empty (held_at tables name k)) ks ≡ true → 2 ≡ types_stop S ks (name ∷ [])
+    last-lacks some = sym (ap (λ b. cond b 2 (cond (list_all (ends_path S) (flat_map (lead S name) ks)) 0 1)) (sym (held-lacks S name tables insides ks) ∙ some))
 
   -- one name of a path
   module _ (ms : List Meaning) (level : List Shape) (is : IsLevel S ms level) where

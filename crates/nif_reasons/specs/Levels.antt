@@ -1,7 +1,7 @@
 -- The meanings of a name of a path, as shapes that are like theirs.
-use Rattle.std.specs.Prelude.{ℕ, ◌≡◌, Bool, true, false, List, [], ◌++◌, map, flat_map, None, Some}
+use Rattle.std.specs.Prelude.{ℕ, ◌≡◌, Bool, true, false, if◌then◌else◌, List, [], ◌++◌, map, flat_map, None, Some}
 use Rattle.std.specs.declared.option.Option.{Option}
-use Rattle.std.specs.List.{list_any}
+use Rattle.std.specs.List.{list_any, list_all}
 use Rattle.std.specs.Prelude.{slice_get}
 use Rattle.std.specs.Option.{option_map_or}
 use Rattle.nif_names.specs.Tables.{Table, held}
@@ -40,3 +40,13 @@ pub record IsAdded (tables : List Table) (name : Name) (inner : List ℕ) (next 
 abbrev pub HasNext : List Table → Name → List ℕ → Option Stack → Type 0
 HasNext tables name types None = list_any (λ k. is_empty (held_at tables name k)) types ≡ true
 HasNext tables name types (Some next) = IsAdded tables name types next.shapes
+
+-- whether all of these shapes are numbers, if there are any
+abbrev pub HasEnd : List Shape → Option Bool → Type 0
+HasEnd shapes None = shapes ≡ []
+HasEnd shapes (Some all) = (shapes ≡ [] → ⊥) × (all ≡ list_all (λ s. s.number) shapes)
+
+-- where the last name of a path stops in some of the inner types, each of which has it
+pub record IsEnded (tables : List Table) (name : Name) (inner : List ℕ) (stop : ℕ) : Type 0 where
+  pub found : list_any (λ k. is_empty (held_at tables name k)) inner ≡ false
+  pub numbers : stop ≡ (if list_all (λ s. s.number) (flat_map (held_at tables name) inner) then 0 else 1)

@@ -9,7 +9,7 @@ ghost use Rattle.nif_schema.specs.Declaration.{Name};
 ghost use Rattle.nif_schema.specs.Paths.{Meaning, is_header_path, path_reason};
 ghost use Rattle.nif_schema.specs.declared.faults.Closed.TheVariants.{C5, C6};
 ghost use Rattle.nif_reasons.specs.Shaped.{AreInsides};
-ghost use Rattle.nif_reasons.specs.Levels.{IsLevel, HasAdded, HasNext, held_at};
+ghost use Rattle.nif_reasons.specs.Levels.{IsLevel, HasAdded, HasEnd, HasNext, held_at};
 ghost use Rattle.nif_reasons.specs.Marks.{Gives, HasMarks, IsLine, rest_stop, types_stop, types_reason, stop_reason, key_of, key_of_name};
 
 use nif_base::{NoMemory, Word};
@@ -99,6 +99,31 @@ fn next_level(
     Ok(Some(next))
 }
 
+/// Whether all that a name means inside a type are numbers, if it means anything there.
+fn ends_inside(tables: &[Names], inner: u32, name: &Word) -> Option<bool>
+    ensures { HasEnd (held_at tables.now name.now inner) result }
+{
+    let inside = tables.get(inner as usize)?;
+    let shapes = inside.look(name.bytes())?;
+    Some(shapes.all_numbers())
+}
+
+/// Where the last name of a path stops, where the names before it mean fields of these types.
+fn last_stop(tables: &[Names], types: &[u32], name: &Word) -> u64
+    ensures { (schema : Schema) → AreInsides schema tables.now → result ≡ types_stop schema types.now (name.now ∷ []) }
+{
+    let mut stop = 0;
+    for inner in types {
+        let Some(are_numbers) = ends_inside(tables, *inner, name) else {
+            return 2;
+        };
+        if !are_numbers {
+            stop = 1;
+        }
+    }
+    stop
+}
+
 /// Where the names of a path from a place on stop, where the names before it mean these.
 fn level_stop(
     alloc: Global,
@@ -131,6 +156,9 @@ fn types_stop(alloc: Global, tables: &[Names], types: &[u32], path: &Path) -> Re
     requires { 1 < length path.now }
     ensures { IfOk result (λ stop. (schema : Schema) → AreInsides schema tables.now → stop ≡ types_stop schema types.now (drop 1 path.now)) }
 {
+    if path.len() == 2 {
+        return Ok(last_stop(tables, types, path.get(1)));
+    }
     match next_level(alloc, tables, types, path.get(1)) {
         Ok(Some(level)) => level_stop(alloc, tables, level, path, 2),
         Ok(None) => Ok(2 * u64::from(path.len() - 1)),
