@@ -4,7 +4,8 @@
     bench/schema.py [PROGRAM]        PROGRAM: crates/nif/out/nif, as `rt run` in crates/nif builds it
 
 For each shape it makes texts of 0.5, 1, 2 and 4 MiB and prints the best of three runs, and how the time grew when the
-size doubled: about 2 is linear. Only paths with a reason in children grow by 4. Exit status 0 (listed) and 3 (refused) are both fine. It is no part of the tests.
+size doubled: about 2 is linear. Different rests of two names may grow by 2.8. Exit status 0 (listed) and 3 (refused) are
+both fine. It is no part of the tests.
 """
 import os, resource, subprocess, sys, tempfile, time
 
@@ -62,7 +63,7 @@ def paths_through_one_name(size):
 
 def paths_through_many_types(size):
     """One name of many types, and as many paths of one text through it: the types are looked at once."""
-    count = size // 125
+    count = size // 135
     structs = "".join('<struct name="T%d"><field name="N" type="uint"/></struct>' % i for i in range(count))
     fields = "".join('<field name="F" type="T%d"/>' % i for i in range(count))
     paths = "".join('<field name="G" type="uint" cond="F\\N"/>' for i in range(count))
@@ -71,20 +72,46 @@ def paths_through_many_types(size):
 
 def types_and_paths_in_turn(size):
     """A path stands behind each field of another type, so each looks at one type."""
-    count = size // 125
+    count = size // 135
     structs = "".join('<struct name="T%d"><field name="N" type="uint"/></struct>' % i for i in range(count))
     fields = "".join('<field name="F" type="T%d"/><field name="G" type="uint" cond="F\\N"/>' % i for i in range(count))
     return "<niftoolsxml>" + PLAIN + structs + '<struct name="S">' + fields + "</struct></niftoolsxml>"
 
 
+def many_types(count, last="N"):
+    """So many structs with a field `N`, but the last one's has this name; and fields `F` of these types."""
+    structs = "".join('<struct name="T%d"><field name="%s" type="uint"/></struct>' % (i, "N" if i + 1 < count else last) for i in range(count))
+    return structs, ['<field name="F" type="T%d"/>' % i for i in range(count)]
+
+
 def paths_with_a_reason_in_children(size):
-    """The last of many types lacks the name, and each child's path looks at all of them again until it finds that out:
-    this grows with the square. The text is about an eighth of the size, so that it ends soon."""
-    count = size // 1000
-    structs = "".join('<struct name="T%d"><field name="%s" type="uint"/></struct>' % (i, "N" if i + 1 < count else "M") for i in range(count))
-    fields = "".join('<field name="F" type="T%d"/>' % i for i in range(count))
+    """The last of many types lacks the name. The path of the first child finds that out, and those of the others know it."""
+    count = size // 190
+    structs, fields = many_types(count, "M")
     children = "".join('<niobject name="B%d" inherit="A"><field name="G" type="uint" cond="F\\N"/></niobject>' % i for i in range(count))
-    return "<niftoolsxml>" + PLAIN + structs + '<niobject name="A">' + fields + "</niobject>" + children + "</niftoolsxml>"
+    return "<niftoolsxml>" + PLAIN + structs + '<niobject name="A">' + "".join(fields) + "</niobject>" + children + "</niftoolsxml>"
+
+
+def types_and_paths_in_children(size):
+    """Each child puts another type behind those of its parent, which is taken off again. A type of the parent has the name,
+    but for no number, so that each path gives a reason."""
+    count = size // 190
+    structs, fields = many_types(count)
+    odd = '<basic name="float"/><struct name="Odd"><field name="N" type="float"/></struct>'
+    above = "".join(fields[:count // 2]) + '<field name="F" type="Odd"/>'
+    children = "".join('<niobject name="B%d" inherit="A">%s<field name="G" type="uint" cond="F\\N"/></niobject>'
+                       % (i, fields[i]) for i in range(count // 2, count))
+    return "<niftoolsxml>" + PLAIN + structs + odd + '<niobject name="A">' + above + "</niobject>" + children + "</niftoolsxml>"
+
+
+def different_rests_of_two_names(size):
+    """So many types with as many names each, and as many first names of these types as the text has room for: each path has
+    another pair of names, and looks at all types. The time grows as the text times its square root."""
+    count = int((size / 120) ** 0.5)
+    structs = "".join('<struct name="T%d">%s</struct>' % (i, "".join('<field name="N%d" type="uint"/>' % k for k in range(count))) for i in range(count))
+    fields = "".join('<field name="F%d" type="T%d"/>' % (k, i) for k in range(count) for i in range(count))
+    paths = "".join('<field name="G" type="uint" cond="F%d\\N%d"/>' % (k, i) for k in range(count) for i in range(count))
+    return "<niftoolsxml>" + PLAIN + structs + '<struct name="S">' + fields + paths + "</struct></niftoolsxml>"
 
 
 def long_paths(size):
@@ -134,7 +161,7 @@ def tokens(size):
 
 SHAPES = [chain, chain_backwards, loop_of_parents, chain_with_fields, conditions_on_the_first, one_name, paths_through_one_name,
           paths_through_many_types, types_and_paths_in_turn,
-          paths_with_a_reason_in_children, long_paths, ring, uses_of_one_closed, children_of_one, attributes, references, deep, text_and_comments, unfinished, tokens]
+          paths_with_a_reason_in_children, types_and_paths_in_children, different_rests_of_two_names, long_paths, ring, uses_of_one_closed, children_of_one, attributes, references, deep, text_and_comments, unfinished, tokens]
 
 
 def best(words, runs=3):
@@ -151,7 +178,7 @@ def best(words, runs=3):
 def main():
     program = os.path.abspath(sys.argv[1] if len(sys.argv) > 1 else "crates/nif/out/nif")
     sizes = [1 << 19, 1 << 20, 1 << 21, 1 << 22]
-    print("%-26s" % "shape" + "".join("%9s MiB" % (s / (1 << 20)) for s in sizes) + "    growth    cat")
+    print("%-32s" % "shape" + "".join("%9s MiB" % (s / (1 << 20)) for s in sizes) + "    growth    cat")
     with tempfile.TemporaryDirectory() as folder:
         for shape in SHAPES:
             seconds, yardstick = [], 0.0
@@ -162,7 +189,7 @@ def main():
                 seconds.append(best([program, "schema", path]))
                 yardstick = best(["cat", path])
             growth = " ".join("%.1f" % (b / a) for a, b in zip(seconds, seconds[1:]))
-            print("%-26s" % shape.__name__ + "".join("%13.3f" % s for s in seconds) + "    " + growth + "  %.3f" % yardstick)
+            print("%-32s" % shape.__name__ + "".join("%13.3f" % s for s in seconds) + "    " + growth + "  %.3f" % yardstick)
     print("most memory held by a run: %d kB" % resource.getrusage(resource.RUSAGE_CHILDREN).ru_maxrss)
 
 
