@@ -42,7 +42,7 @@ pub struct Bounds {
 }
 
 /// The fault of what was to be taken from a place on.
-pub(crate) fn fault_at(at: u64, fault: TakeFault) -> ValueFault
+pub fn fault_at(at: u64, fault: TakeFault) -> ValueFault
     ensures { cause result ≡ take_cause at fault }
 {
     match fault {

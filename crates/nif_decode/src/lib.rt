@@ -15,11 +15,12 @@ pub mod members;
 mod opens;
 mod runs;
 pub mod scope;
-mod takes;
+pub mod takes;
 mod values;
 
 pub use decode::decode_value;
-pub use faults::{Bounds, ValueFault};
+pub use faults::{Bounds, ValueFault, fault_at};
 pub use first_line::decode_line;
 pub use members::decode_members;
 pub use scope::Scope;
+pub use takes::take_number;

@@ -57,8 +57,9 @@ fn take_into<S: Source>(
     }
 }
 
-/// Takes a number of so many bytes, the lowest first where it is little, else the highest first.
-pub(crate) fn take_number<S: Source>(
+/// Takes a number of so many bytes, the lowest first where it is little, else the highest first. Its fault is that of one
+/// part of so many bytes at the place of the taker.
+pub fn take_number<S: Source>(
     little: bool,
     width: u8,
     taker: &mut Taker<'_, S>,

@@ -1,8 +1,3 @@
-pub mod FirstSteps
-pub mod FirstMany
-pub mod FirstFiles
-pub mod FirstAnswers
-pub mod FirstPuts
 pub mod Walks
 pub mod ReasonCases
 pub mod Pieces

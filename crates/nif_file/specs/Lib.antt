@@ -1,5 +1,3 @@
-pub mod First
-pub mod FirstReading
 pub mod Stops
 pub mod FirstLine
 pub mod Sizes

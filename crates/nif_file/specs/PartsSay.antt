@@ -11,7 +11,7 @@ use Rattle.nif_graph.specs.declared.parts.BlockPart.{BlockPart}
 use Rattle.nif_graph.specs.declared.parts.GraphParts.{GraphParts}
 use Rattle.nif_layout.specs.Context.{Context}
 use Rattle.nif_file.specs.Head.{file_context}
-use Rattle.nif_file.specs.Files.{head_in}
+use Rattle.nif_file.specs.Files.{head_in, nodes_of, size_of}
 use Rattle.nif_file.specs.Heads.{ArePlaces}
 
 -- this node stands under the tree
@@ -43,3 +43,5 @@ pub record SaysFile (S : Schema) (parts : GraphParts) (F : File) : Type 0 where
   pub footer : StandsUnder parts.store parts.footer F.footer
   pub context : SaysContext parts.context (file_context S (head_in S F))
   pub places : ArePlaces S parts.places
+  pub nodes : parts.nodes ≡ nodes_of F
+  pub bytes : parts.bytes ≡ size_of S F

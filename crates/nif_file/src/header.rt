@@ -42,7 +42,7 @@ pub struct Header {
 }
 
 /// The fault of a value as one of a file.
-fn of_value(fault: ValueFault) -> FileFault
+pub fn of_value(fault: ValueFault) -> FileFault
     ensures { result ≡ fault_of fault }
 {
     match fault {

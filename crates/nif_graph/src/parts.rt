@@ -90,4 +90,8 @@ pub struct GraphParts {
     pub context: Context,
     pub blocks: Blocks,
     pub footer: TreeId,
+    /// How many nodes they have in all, absent members too.
+    pub nodes: u32,
+    /// How many bytes the file has.
+    pub bytes: u32,
 }

@@ -9,7 +9,7 @@ mod passing;
 pub mod reading;
 mod roles;
 
-pub use lists::Lists;
+pub use lists::{Lists, find_block};
 pub use reading::{read_lists, type_name};
 
 #[cfg(test)]

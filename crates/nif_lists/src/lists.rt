@@ -35,8 +35,8 @@ impl Model for Lists {
     ghost view = { λ l. record { types = l.types.items; index = option_map (λ words. words.items) l.index; sizes = option_map (λ sizes. sizes.items) l.sizes } };
 }
 
-/// The number of the block type of a name, if there is one.
-fn find_block(schema: &Schema, name: &[u8]) -> Option<u32>
+/// The number of the block type of a name, if there is one. It takes no memory.
+pub fn find_block(schema: &Schema, name: &[u8]) -> Option<u32>
     ensures { result ≡ find_block schema.now name.now }
 {
     let number = schema.find(name)?;

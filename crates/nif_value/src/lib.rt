@@ -8,12 +8,10 @@
 
 mod builders;
 mod counts;
-pub mod first;
 mod packing;
 pub mod stores;
 pub mod walks;
 
-pub use first::{FirstFault, FirstFile};
 pub use nif_cells::{RefView, Step};
 pub use stores::{Store, TreeId};
 pub use walks::Walk;

@@ -1,8 +1,0 @@
-use Rattle.nif_file.proofs.FirstAnswers.{no_fault, one_fault}
-use Rattle.nif_file.proofs.laws.one_answer.Goals as goal
-
-pub returns-clause-no_fault : goal.returns-clause-no_fault
-returns-clause-no_fault c = no_fault
-
-pub returns-clause-one_fault : goal.returns-clause-one_fault
-returns-clause-one_fault c = one_fault
