@@ -1,0 +1,14 @@
+pub mod Halting
+pub mod Going
+pub mod Trees
+pub mod Orders
+pub mod BlockLaws
+pub mod TypeLaws
+pub mod NameLaws
+pub mod NameFaults
+pub mod ZeroLaws
+pub mod EndLaws
+pub mod ValueLaws
+pub mod Reading
+pub mod Rest
+pub mod Whole

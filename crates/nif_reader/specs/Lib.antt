@@ -1,0 +1,4 @@
+pub mod Halting
+pub mod Types
+pub mod Known
+pub mod Answers
