@@ -1,2 +1,4 @@
 pub mod Copies
+pub mod Loading
 pub mod Printing
+pub mod Done

@@ -2,36 +2,30 @@
 use Rattle.std.proofs.Common.{◌≡◌, ℕ, List, Option, Some, None, refl, sym, subst, arith, Ok, Err}
 use Rattle.std.specs.Option.{IfSome}
 use Rattle.nif_base.specs.Shelf.{Files}
-use Rattle.nif_tool.specs.Command.{SchemaName, CopyPlain}
+use Rattle.nif_tool.specs.Command.{SchemaName, Check, Copy}
 use Rattle.nif_tool.specs.Command as command
 use Rattle.nif_schema.specs.Schema.{Schema}
 use Rattle.nif_print.specs.Listing.{IsListing}
-use Rattle.nif_tool.specs.Steps.{Gets}
+use Rattle.nif_tool.specs.Steps.{CopiesBy, Gets, IsAccepted, parts_summary}
 use Rattle.nif_tool.specs.Schemas.{told_bytes}
 use Rattle.nif_tool.specs.Lines.{line_of}
-use Rattle.nif_tool.specs.Meaning.{Prints, Answers, CanAnswer, CopiesTold, HasCauses, Lists}
+use Rattle.nif_tool.specs.Meaning.{Answers, CanAnswer, CanFail, CanLack, Checks, Copies, HasCauses, Lists, Prints, Refused, WhereTold}
+use Rattle.nif_tool.specs.declared.files.Accepted.{Accepted}
 use Rattle.nif_tool.specs.declared.report.Fault.{Fault}
 use Rattle.nif_tool.specs.declared.report.Fault.TheVariants as fault
+use Rattle.nif_tool.proofs.Copies.{checked_as}
 
 -- what holds of an answer and its text may be weaker
 pub prints_weaker : {P Q : Option Fault → List ℕ → Type 0} (answer : Option Fault) (text : List ℕ) → ((a : Option Fault) (t : List ℕ) → P a t → Q a t) → Prints P answer text → Prints Q answer text
 prints_weaker None text f p = f None text p
 prints_weaker (Some fault.Usage) text f p = f _ text p
 prints_weaker (Some (fault.Schema x)) text f p = f _ text p
-prints_weaker (Some (fault.First x)) text f p = f _ text p
+prints_weaker (Some (fault.File x)) text f p = f _ text p
 prints_weaker (Some fault.OpenFault) text f p = f _ text p
 prints_weaker (Some fault.ReadFault) text f p = f _ text p
 prints_weaker (Some fault.WriteFault) text f p = f _ text p
 prints_weaker (Some fault.PrintFault) text f p = (p.0, p.1, p.2, f p.0 p.1 p.3, p.4)
 prints_weaker (Some fault.NoMemory) text f p = f _ text p
-
--- a copy that was refused
-pub copy_refused : (from to : List ℕ) (old new : Option Files) (refusal : Fault) (opens opens' reads reads' writes writes' : ℕ) (answer : Option Fault) (text : List ℕ)
-    → CanAnswer (CopyPlain from to) (Some refusal) → CopiesTold from to old new (Some refusal) → HasCauses (Some refusal) opens opens' reads reads' writes writes'
-    → (answer ≡ Some refusal) × (text ≡ line_of refusal) → Answers (Some (CopyPlain from to)) old new answer text × HasCauses answer opens opens' reads reads' writes writes'
-copy_refused from to old new refusal opens opens' reads reads' writes writes' answer text can copies causes is =
-    subst (λ a. Answers (Some (CopyPlain from to)) old new a text × HasCauses a opens opens' reads reads' writes writes') (sym is.0)
-    ((can, (copies, λ e. absurd (cc)), is.1), causes)
 
 -- words that are no command
 pub no_command : (files : Option Files) (opens reads writes : ℕ) (answer : Option Fault) (text : List ℕ) → (answer ≡ Some fault.Usage) × (text ≡ line_of fault.Usage)
@@ -67,7 +61,7 @@ lists_refusal : (bytes : Option (Option (List ℕ))) (refusal : Fault) (text : L
 lists_refusal None refusal text h = tt
 lists_refusal (Some b) fault.Usage text h = tt
 lists_refusal (Some b) (fault.Schema r) text h = h
-lists_refusal (Some b) (fault.First r) text h = tt
+lists_refusal (Some b) (fault.File r) text h = tt
 lists_refusal (Some b) fault.OpenFault text h = tt
 lists_refusal (Some b) fault.ReadFault text h = tt
 lists_refusal (Some b) fault.WriteFault text h = tt
@@ -76,8 +70,56 @@ lists_refusal (Some b) fault.NoMemory text h = tt
 
 -- a schema that was refused
 pub schema_refused : (name : SchemaName) (old new : Option Files) (refusal : Fault) (opens opens' reads reads' writes writes' : ℕ) (answer : Option Fault) (text : List ℕ)
-    → CanAnswer (command.Schema name) (Some refusal) → IfSome (told_bytes name old) (λ b. Gets b (Err refusal)) → new ≡ old → HasCauses (Some refusal) opens opens' reads reads' writes writes'
+    → CanLack name refusal → IfSome (told_bytes name old) (λ b. Gets b (Err refusal)) → new ≡ old → HasCauses (Some refusal) opens opens' reads reads' writes writes'
     → (answer ≡ Some refusal) × (text ≡ line_of refusal) → Answers (Some (command.Schema name)) old new answer text × HasCauses answer opens opens' reads reads' writes writes'
 schema_refused name old new refusal opens opens' reads reads' writes writes' answer text can gets same causes is =
     subst (λ a. Answers (Some (command.Schema name)) old new a text × HasCauses a opens opens' reads reads' writes writes') (sym is.0)
     ((can, (lists_refusal (told_bytes name old) refusal text gets, same), is.1), causes)
+
+-- a file that was checked
+pub check_done : (name : SchemaName) (file : List ℕ) (old new : Option Files) (accepted : Accepted) (opens opens' reads reads' writes writes' : ℕ) (answer : Option Fault) (text : List ℕ)
+    → IsAccepted name file old accepted → new ≡ old → HasCauses None opens opens' reads reads' writes writes'
+    → (answer ≡ None) × (text ≡ parts_summary accepted.parts) → Answers (Some (Check name file)) old new answer text × HasCauses answer opens opens' reads reads' writes writes'
+check_done name file old new accepted opens opens' reads reads' writes writes' answer text accepts same causes is =
+    subst (λ a. Answers (Some (Check name file)) old new a text × HasCauses a opens opens' reads reads' writes writes') (sym is.0)
+    ((tt, (subst (λ t. IfSome old (λ d. Checks name file d None t)) (sym is.1) (checked_as name file old accepted accepts), same), tt), causes)
+
+-- a file that was refused
+pub check_refused : (name : SchemaName) (file : List ℕ) (old new : Option Files) (refusal : Fault) (opens opens' reads reads' writes writes' : ℕ) (answer : Option Fault) (text : List ℕ)
+    → CanFail refusal → IfSome old (λ d. Refused name file d refusal) → new ≡ old → HasCauses (Some refusal) opens opens' reads reads' writes writes'
+    → (answer ≡ Some refusal) × (text ≡ line_of refusal) → Answers (Some (Check name file)) old new answer text × HasCauses answer opens opens' reads reads' writes writes'
+check_refused name file old new refusal opens opens' reads reads' writes writes' answer text can refused same causes is =
+    subst (λ a. Answers (Some (Check name file)) old new a text × HasCauses a opens opens' reads reads' writes writes') (sym is.0)
+    ((can, (refused, same), is.1), causes)
+
+-- a file that was copied
+pub copy_done : (name : SchemaName) (file copy : List ℕ) (old new : Option Files) (accepted : Accepted) (opens opens' reads reads' writes writes' : ℕ) (answer : Option Fault) (text : List ℕ)
+    → WhereTold old new (λ d e. CopiesBy name file copy d e (Ok accepted)) → HasCauses None opens opens' reads reads' writes writes'
+    → (answer ≡ None) × (text ≡ parts_summary accepted.parts) → Answers (Some (Copy name file copy)) old new answer text × HasCauses answer opens opens' reads reads' writes writes'
+copy_done name file copy old new accepted opens opens' reads reads' writes writes' answer text copies causes is =
+    subst (λ a. Answers (Some (Copy name file copy)) old new a text × HasCauses a opens opens' reads reads' writes writes') (sym is.0)
+    ((tt, subst (λ t. WhereTold old new (λ d e. Copies name file copy d e None t)) (sym is.1) copies, tt), causes)
+
+-- no refusal of a copy speaks of the text
+of_any_text : (name : SchemaName) (file copy : List ℕ) (d e : Files) (refusal : Fault) (text : List ℕ) → CopiesBy name file copy d e (Err refusal) → Copies name file copy d e (Some refusal) text
+of_any_text name file copy d e fault.WriteFault text h = h
+of_any_text name file copy d e fault.OpenFault text h = h
+of_any_text name file copy d e fault.Usage text h = h
+of_any_text name file copy d e (fault.Schema _) text h = h
+of_any_text name file copy d e (fault.File _) text h = h
+of_any_text name file copy d e fault.ReadFault text h = h
+of_any_text name file copy d e fault.PrintFault text h = h
+of_any_text name file copy d e fault.NoMemory text h = h
+
+where_told : (old new : Option Files) (P Q : Files → Files → Type 0) → ((d e : Files) → P d e → Q d e) → WhereTold old new P → WhereTold old new Q
+where_told None new P Q f h = tt
+where_told (Some d) None P Q f h = h
+where_told (Some d) (Some e) P Q f h = f d e h
+
+-- a copy that was refused
+pub copy_refused : (name : SchemaName) (file copy : List ℕ) (old new : Option Files) (refusal : Fault) (opens opens' reads reads' writes writes' : ℕ) (answer : Option Fault) (text : List ℕ)
+    → CanAnswer (Copy name file copy) (Some refusal) → WhereTold old new (λ d e. CopiesBy name file copy d e (Err refusal)) → HasCauses (Some refusal) opens opens' reads reads' writes writes'
+    → (answer ≡ Some refusal) × (text ≡ line_of refusal) → Answers (Some (Copy name file copy)) old new answer text × HasCauses answer opens opens' reads reads' writes writes'
+copy_refused name file copy old new refusal opens opens' reads reads' writes writes' answer text can copies causes is =
+    subst (λ a. Answers (Some (Copy name file copy)) old new a text × HasCauses a opens opens' reads reads' writes writes') (sym is.0)
+    ((can, where_told old new (λ d e. CopiesBy name file copy d e (Err refusal)) (λ d e. Copies name file copy d e (Some refusal) text) (λ d e h. of_any_text name file copy d e refusal text h) copies, is.1), causes)

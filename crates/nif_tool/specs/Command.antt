@@ -1,5 +1,5 @@
--- The command that the words spell: `schema S` or `copy plain FROM TO`.
-use Rattle.std.specs.Prelude.{ℕ, List, [], ◌∷◌, None, Some, ◌&&◌, if◌then◌else◌, string_bytes, String, codes}
+-- The command that the words spell: `schema S`, `check S F` or `copy S F OUT`.
+use Rattle.std.specs.Prelude.{ℕ, List, [], ◌∷◌, None, Some, if◌then◌else◌, string_bytes, String, codes}
 use Rattle.std.specs.Str.{bytes_eq}
 use Rattle.std.specs.declared.option.Option.{Option}
 use Rattle.std.specs.declared.alloc.Global.{Global}
@@ -18,12 +18,15 @@ schema_named word =
 
 pub data Command : Type 0 where
   Schema : (schema : SchemaName) → Command
-  CopyPlain : (from to : List ℕ) → Command
+  Check : (schema : SchemaName) → (file : List ℕ) → Command
+  Copy : (schema : SchemaName) → (file copy : List ℕ) → Command
 
 abbrev pub command_of : List (String Global) → Option Command
-command_of (a ∷ schema ∷ []) =
-    if bytes_eq (string_bytes a) (codes "schema") then Some (Schema (schema_named (string_bytes schema))) else None
-command_of (a ∷ b ∷ from ∷ to ∷ []) =
-    if bytes_eq (string_bytes a) (codes "copy") && bytes_eq (string_bytes b) (codes "plain")
-    then Some (CopyPlain (string_bytes from) (string_bytes to)) else None
+command_of (verb ∷ schema ∷ []) =
+    if bytes_eq (string_bytes verb) (codes "schema") then Some (Schema (schema_named (string_bytes schema))) else None
+command_of (verb ∷ schema ∷ file ∷ []) =
+    if bytes_eq (string_bytes verb) (codes "check") then Some (Check (schema_named (string_bytes schema)) (string_bytes file)) else None
+command_of (verb ∷ schema ∷ file ∷ copy ∷ []) =
+    if bytes_eq (string_bytes verb) (codes "copy")
+    then Some (Copy (schema_named (string_bytes schema)) (string_bytes file) (string_bytes copy)) else None
 command_of _ = None

@@ -4,5 +4,5 @@ pub mod Refusals
 pub mod Command
 pub mod Schemas
 pub mod Meaning
-pub mod Steps
 pub mod Words
+pub mod Steps

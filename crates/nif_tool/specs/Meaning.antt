@@ -1,39 +1,61 @@
 -- What a command comes to: its answer, what that says of the files, where they are told, and the text that it prints.
-use Rattle.std.specs.Prelude.{◌≡◌, ◌≢◌, ℕ, ◌≤◌, List, [], None, Some, take, IfSome, IsSomeAnd, ⊤}
+use Rattle.std.specs.Prelude.{◌≡◌, ◌≢◌, ◌⊎◌, ℕ, ◌≤◌, List, length, None, Some, take, IfSome, IsSomeAnd, ⊤}
 use Rattle.std.specs.declared.option.Option.{Option}
 use Rattle.std.specs.Option.{option_map}
 use Rattle.std.specs.FinMap.{get, insert}
+use Rattle.nif_base.specs.File.{File}
 use Rattle.nif_base.specs.Outside.{Rose}
 use Rattle.nif_base.specs.Shelf.{Files, Desk, Refusal}
 use Rattle.nif_base.specs.declared.shelves.Kind.{Kind}
 use Rattle.nif_base.specs.declared.shelves.Kind.TheVariants.{Input, Output}
-use Rattle.nif_schema.specs.Schema.{Schema}
+use Rattle.nif_schema.specs.Schema.{Schema, IsSchema}
 use Rattle.nif_schema.specs.declared.faults.SchemaFault.TheVariants as schema_faults
-use Rattle.nif_value.specs.declared.first.FirstFile.{FirstFile}
-use Rattle.nif_file.specs.First.{IsFirst, HasFault}
+use Rattle.nif_layout.specs.Leaf.{AreBytes}
+use Rattle.nif_file.specs.Files.{IsFile, head_in, nodes_of}
+use Rattle.nif_file.specs.FileFails.{FileFails}
+use Rattle.nif_file.specs.Head.{version_in}
+use Rattle.nif_file.specs.declared.faults.FileFault.TheVariants as file_faults
+use Rattle.nif_print.specs.Files.{summary_text}
 use Rattle.nif_print.specs.Listing.{IsListing}
-use Rattle.nif_tool.specs.Command.{Command, Named, CopyPlain}
+use Rattle.nif_tool.specs.Command.{Command, SchemaName, Named, Check, Copy}
 use Rattle.nif_tool.specs.Command as command
-use Rattle.nif_tool.specs.Schemas.{Passes, Refuses, told_bytes}
+use Rattle.nif_tool.specs.Schemas.{HasSchema, Passes, Refuses, schema_bytes, told_bytes}
 use Rattle.nif_tool.specs.Lines.{line_of}
 use Rattle.nif_tool.specs.declared.report.Fault.{Fault}
 use Rattle.nif_tool.specs.declared.report.Fault.TheVariants as fault
 
--- The answers that a command has. Want of memory and a fault of printing may come to each; the other faults of the
--- outside only to a command that names a file of that kind.
+-- ---- which answers there are
+
+-- the name is that of a file
+abbrev pub IsNamed : SchemaName → Type 0
+IsNamed (Named file) = ⊤
+IsNamed _ = ⊥
+
+-- The refusals of a schema. Only a file may not be opened or read. The fault of a schema is not want of memory.
+abbrev pub CanLack : SchemaName → Fault → Type 0
+CanLack name fault.NoMemory = ⊤
+CanLack name (fault.Schema refusal) = refusal ≢ schema_faults.NoMemory
+CanLack name fault.OpenFault = IsNamed name
+CanLack name fault.ReadFault = IsNamed name
+CanLack name _ = ⊥
+
+-- The refusals of a file by a schema. The fault of the file is none of a read or of memory.
+abbrev pub CanFail : Fault → Type 0
+CanFail fault.NoMemory = ⊤
+CanFail (fault.Schema refusal) = refusal ≢ schema_faults.NoMemory
+CanFail (fault.File refusal) = (refusal ≢ file_faults.ReadFault) × (refusal ≢ file_faults.NoMemory)
+CanFail fault.OpenFault = ⊤
+CanFail fault.ReadFault = ⊤
+CanFail _ = ⊥
+
+-- The answers that a command has, but for a fault of printing, which comes in place of an answer whose text it cut off.
 abbrev pub CanAnswer : Command → Option Fault → Type 0
 CanAnswer c None = ⊤
-CanAnswer c (Some fault.NoMemory) = ⊤
-CanAnswer c (Some fault.PrintFault) = ⊤
-CanAnswer (command.Schema schema) (Some (fault.Schema schema_faults.NoMemory)) = ⊥
-CanAnswer (command.Schema schema) (Some (fault.Schema refusal)) = ⊤
-CanAnswer (command.Schema (Named file)) (Some fault.OpenFault) = ⊤
-CanAnswer (command.Schema (Named file)) (Some fault.ReadFault) = ⊤
-CanAnswer (CopyPlain from to) (Some (fault.First refusal)) = ⊤
-CanAnswer (CopyPlain from to) (Some fault.OpenFault) = ⊤
-CanAnswer (CopyPlain from to) (Some fault.ReadFault) = ⊤
-CanAnswer (CopyPlain from to) (Some fault.WriteFault) = ⊤
-CanAnswer _ _ = ⊥
+CanAnswer (command.Schema name) (Some refusal) = CanLack name refusal
+CanAnswer (Check name file) (Some refusal) = CanFail refusal
+CanAnswer (Copy name file copy) (Some refusal) = (refusal ≡ fault.WriteFault) ⊎ CanFail refusal
+
+-- ---- what they say of the files
 
 -- What an answer to `schema S` says of the bytes of S, if there are any, and of the text that is printed. Done: the
 -- schema passes, and its listing is printed. A fault of the schema: it is refused with that fault.
@@ -42,34 +64,55 @@ Lists bytes None text = IsSomeAnd bytes (λ b. (schema : Schema) × Passes b sch
 Lists bytes (Some (fault.Schema refusal)) text = IsSomeAnd bytes (λ b. Refuses b refusal)
 Lists bytes _ text = ⊤
 
--- the bytes are those of a plain file
-abbrev pub HasForm : List ℕ → Type 0
-HasForm bytes = (f : FirstFile) × IsFirst f bytes
-
 -- the file of this name is there, and its bytes have P
 abbrev pub FileIs : List ℕ → Files → (List ℕ → Type 0) → Type 0
 FileIs name files P = IsSomeAnd (get files name) P
 
--- What an answer to `copy plain FROM TO` says of the files before and after. Done: the file has the form, and its bytes
--- are those of the copy, which alone is new. A fault of the file: it has that fault. A fault of writing: the file has
--- the form, and the copy has the first of its bytes. After each other answer no file has changed.
-abbrev pub Copies : List ℕ → List ℕ → Files → Files → Option Fault → Type 0
-Copies from to old new None = FileIs from old (λ bytes. HasForm bytes × (new ≡ insert old to bytes))
-Copies from to old new (Some (fault.First refusal)) = FileIs from old (λ bytes. HasFault bytes refusal) × (new ≡ old)
-Copies from to old new (Some fault.WriteFault) = FileIs from old (λ bytes. HasForm bytes × ((n : ℕ) × (new ≡ insert old to (take n bytes))))
-Copies from to old new _ = new ≡ old
+-- The schema passes, and by it the bytes of the file are a file of which P holds.
+abbrev pub Accepts : SchemaName → List ℕ → Files → (Schema → File → List ℕ → Type 0) → Type 0
+Accepts name file files P =
+    (schema : Schema) × HasSchema name files schema × FileIs file files (λ bytes. (whole : File) × IsFile schema whole bytes × P schema whole bytes)
+
+-- What a refusal says. One of the schema: the schema has that fault. One of the file: the schema passes, and by it the
+-- file has that fault. (`IsSchema` holds of each schema that was read; by it the file has no other answer.)
+abbrev pub Refused : SchemaName → List ℕ → Files → Fault → Type 0
+Refused name file files (fault.Schema refusal) = IsSomeAnd (schema_bytes name files) (λ bytes. Refuses bytes refusal)
+Refused name file files (fault.File refusal) =
+    (schema : Schema) × IsSchema schema × HasSchema name files schema × FileIs file files (λ bytes. FileFails schema bytes refusal)
+Refused name file files _ = ⊤
+
+-- the line that is printed of a file
+abbrev pub summary_of : Schema → File → List ℕ → List ℕ
+summary_of schema whole bytes = summary_text (version_in (head_in schema whole)) (length whole.blocks) (length bytes) (nodes_of whole)
+
+-- What an answer to `check S F` says of the files and of the text that is printed. Done: the file is accepted, and its
+-- line is printed.
+abbrev pub Checks : SchemaName → List ℕ → Files → Option Fault → List ℕ → Type 0
+Checks name file files None text = Accepts name file files (λ schema whole bytes. text ≡ summary_of schema whole bytes)
+Checks name file files (Some refusal) text = Refused name file files refusal
+
+-- What an answer to `copy S F OUT` says of the files before and after, and of the text. Done: the file is accepted, its
+-- line is printed, and its bytes are those of the copy, which alone is new. A fault of writing: the file is accepted, and
+-- the copy has the first of its bytes. After each other answer no file has changed.
+abbrev pub Copies : SchemaName → List ℕ → List ℕ → Files → Files → Option Fault → List ℕ → Type 0
+Copies name file copy old new None text =
+    Accepts name file old (λ schema whole bytes. (text ≡ summary_of schema whole bytes) × (new ≡ insert old copy bytes))
+Copies name file copy old new (Some fault.WriteFault) text = Accepts name file old (λ schema whole bytes. (n : ℕ) × (new ≡ insert old copy (take n bytes)))
+Copies name file copy old new (Some refusal) text = Refused name file old refusal × (new ≡ old)
 
 -- the files, where they are told
 abbrev pub files_of : Option Desk → Option Files
 files_of desk = option_map (λ d. d.files) desk
 
-abbrev pub CopiesTold : List ℕ → List ℕ → Option Files → Option Files → Option Fault → Type 0
-CopiesTold from to old new answer = IfSome old (λ d. IsSomeAnd new (λ e. Copies from to d e answer))
+-- the files before and after are told, and P holds of them; or those before are not
+abbrev pub WhereTold : Option Files → Option Files → (Files → Files → Type 0) → Type 0
+WhereTold old new P = IfSome old (λ d. IsSomeAnd new (P d))
 
 -- What the answer of a command says of the files and of what is printed, but for a refusal's line.
 abbrev pub Does : Command → Option Files → Option Files → Option Fault → List ℕ → Type 0
-Does (command.Schema schema) old new answer text = IfSome (told_bytes schema old) (λ bytes. Lists bytes answer text) × (new ≡ old)
-Does (CopyPlain from to) old new answer text = CopiesTold from to old new answer × (answer ≡ None → text ≡ [])
+Does (command.Schema name) old new answer text = IfSome (told_bytes name old) (λ bytes. Lists bytes answer text) × (new ≡ old)
+Does (Check name file) old new answer text = IfSome old (λ d. Checks name file d answer text) × (new ≡ old)
+Does (Copy name file copy) old new answer text = WhereTold old new (λ d e. Copies name file copy d e answer text)
 
 -- A refusal prints its line.
 abbrev pub IsRefusalText : Option Fault → List ℕ → Type 0
@@ -80,6 +123,8 @@ IsRefusalText (Some refusal) text = text ≡ line_of refusal
 abbrev pub Answers : Option Command → Option Files → Option Files → Option Fault → List ℕ → Type 0
 Answers None old new answer text = (answer ≡ Some fault.Usage) × (new ≡ old) × (text ≡ line_of fault.Usage)
 Answers (Some c) old new answer text = CanAnswer c answer × Does c old new answer text × IsRefusalText answer text
+
+-- ---- faults of the outside
 
 -- each fault of the outside comes only where its count rose; no count falls
 pub record HasCauses (answer : Option Fault) (opens opens' reads reads' writes writes' : ℕ) : Type 0 where
@@ -95,24 +140,50 @@ abbrev pub Prints : (Option Fault → List ℕ → Type 0) → Option Fault → 
 Prints P (Some fault.PrintFault) text = (answer : Option Fault) × (whole : List ℕ) × (answer ≢ Some fault.PrintFault) × P answer whole × ((n : ℕ) × (text ≡ take n whole))
 Prints P answer text = P answer text
 
--- what was asked for when an open or create failed, at its turn: the schema, the file to be copied, or, where that has
--- the form, the copy
+-- the schema is a file of this name
+abbrev pub IsFileOf : SchemaName → List ℕ → Type 0
+IsFileOf (Named file) name = name ≡ file
+IsFileOf _ name = ⊥
+
+-- The inputs of a command, each at its turn: the schema, and the file where the schema passes.
+abbrev pub IsInput : SchemaName → List ℕ → Option Files → List ℕ → Type 0
+IsInput schema file files name = IsFileOf schema name ⊎ ((name ≡ file) × IfSome files (λ d. (passed : Schema) × HasSchema schema d passed))
+
+-- what a command asks for at its turn: an input, or the copy, where the file is accepted
 abbrev pub IsAsked : Command → Option Files → Kind → List ℕ → Type 0
-IsAsked (command.Schema (Named file)) files Input name = name ≡ file
-IsAsked (CopyPlain from to) files Input name = name ≡ from
-IsAsked (CopyPlain from to) files Output name = (name ≡ to) × IfSome files (λ d. FileIs from d HasForm)
+IsAsked (command.Schema schema) files Input name = IsFileOf schema name
+IsAsked (Check schema file) files Input name = IsInput schema file files name
+IsAsked (Copy schema file copy) files Input name = IsInput schema file files name
+IsAsked (Copy schema file copy) files Output name = (name ≡ copy) × IfSome files (λ d. Accepts schema file d (λ passed whole bytes. ⊤))
 IsAsked _ files kind name = ⊥
 
--- after a fault of opening, where the refusal is told
+-- after a fault of opening, where the refusal is told, that is what was asked for
 abbrev pub RefusedFor : Command → Option Files → Option Fault → Option Refusal → Type 0
 RefusedFor c files answer refused = answer ≡ Some fault.OpenFault → IfSome refused (λ r. IsAsked c files r.kind r.name)
 
--- the input that a command reads
-abbrev pub IsInput : Command → Option (List ℕ) → Type 0
-IsInput (command.Schema (Named file)) input = input ≡ Some file
-IsInput (CopyPlain from to) input = input ≡ Some from
-IsInput _ input = ⊥
+-- after a fault of reading, where the input is told, that is what was asked for
+abbrev pub ReadFrom : Command → Option Files → Option Fault → Option Desk → Type 0
+ReadFrom c files answer desk = answer ≡ Some fault.ReadFault → IfSome desk (λ d. (name : List ℕ) × (d.input ≡ Some name) × IsAsked c files Input name)
 
--- after a fault of reading, where it is told, that is the shelf's input
-abbrev pub ReadFrom : Command → Option Fault → Option Desk → Type 0
-ReadFrom c answer desk = answer ≡ Some fault.ReadFault → IfSome desk (λ d. IsInput c d.input)
+-- ---- what can be done is done
+
+-- The schema of a command passes, and by it the file, whose bytes are below 256, is accepted.
+abbrev pub CanBeDone : Command → Files → Type 0
+CanBeDone (command.Schema name) files = (schema : Schema) × HasSchema name files schema
+CanBeDone (Check name file) files = Accepts name file files (λ schema whole bytes. AreBytes bytes)
+CanBeDone (Copy name file copy) files = Accepts name file files (λ schema whole bytes. AreBytes bytes)
+
+-- no count of faults of a shelf rose
+pub record NoneRose (opens opens' reads reads' writes writes' : ℕ) : Type 0 where
+  pub opening : ¬ Rose opens opens'
+  pub reading : ¬ Rose reads reads'
+  pub writing : ¬ Rose writes writes'
+
+-- it was done, or memory ran out
+abbrev pub IsDone : Option Fault → Type 0
+IsDone answer = (answer ≡ None) ⊎ (answer ≡ Some fault.NoMemory)
+
+-- Where a command can be done and no count of faults rose, it has no other answer.
+abbrev pub DoneOnly : Command → Type 0
+DoneOnly c = (files : Files) (new : Option Files) (answer : Option Fault) (text : List ℕ) (opens opens' reads reads' writes writes' : ℕ) → CanBeDone c files
+    → Answers (Some c) (Some files) new answer text → HasCauses answer opens opens' reads reads' writes writes' → NoneRose opens opens' reads reads' writes writes' → IsDone answer

@@ -1,5 +1,5 @@
 -- What reading a schema comes to: the bytes declare a schema that keeps the rules of the header, or they are refused.
-use Rattle.std.specs.Prelude.{ℕ, ◌≤◌, ◌<◌, ◌^◌, List, length, Some}
+use Rattle.std.specs.Prelude.{ℕ, ◌≤◌, ◌<◌, ◌^◌, List, length, Some, IsSomeAnd}
 use Rattle.std.specs.declared.option.Option.{Option}
 use Rattle.std.specs.Option.{option_map}
 use Rattle.std.specs.FinMap.{get}
@@ -37,8 +37,18 @@ Refuses bytes (faults.HeaderRole rule) = (schema : Schema) × Spells bytes schem
 Refuses bytes faults.NoMemory = ⊥
 Refuses bytes fault = (length bytes ≤ limit) × IsRefused bytes fault
 
--- The bytes of a schema, if it is there. They are told where it is built in, or where the files are told.
+-- The bytes of a schema, if it is there: they are built in, or a file has them.
+abbrev pub schema_bytes : SchemaName → Files → Option (List ℕ)
+schema_bytes Plain files = Some PLAIN.now
+schema_bytes Scene files = Some SCENE.now
+schema_bytes (Named file) files = get files file
+
+-- The same where they are told: built in, or where the files are told.
 abbrev pub told_bytes : SchemaName → Option Files → Option (Option (List ℕ))
 told_bytes Plain files = Some (Some PLAIN.now)
 told_bytes Scene files = Some (Some SCENE.now)
 told_bytes (Named file) files = option_map (λ d. get d file) files
+
+-- the name is that of this schema, which passes
+abbrev pub HasSchema : SchemaName → Files → Schema → Type 0
+HasSchema name files schema = IsSomeAnd (schema_bytes name files) (λ bytes. Passes bytes schema)

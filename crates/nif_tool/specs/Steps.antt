@@ -1,18 +1,24 @@
--- What the steps of a command answer: reading a schema's text, understanding it, reading a plain file, and writing the copy.
-use Rattle.std.specs.Prelude.{◌≡◌, ℕ, ◌<◌, List, Ok, Err, take, length, Some, IfSome, IsSomeAnd, ⊤, Vec}
+-- What the steps of a command answer: reading a schema's text, understanding it, reading a file by it, and writing the copy.
+use Rattle.std.specs.Prelude.{◌≡◌, ℕ, ◌<◌, List, [], Ok, Err, None, take, length, Some, IfSome, IsSomeAnd, ⊤, Vec}
 use Rattle.std.specs.declared.option.Option.{Option}
 use Rattle.std.specs.declared.result.Result.{Result}
 use Rattle.std.specs.declared.alloc.Global.{Global}
 use Rattle.std.specs.FinMap.{get, insert}
+use Rattle.nif_base.specs.File.{File}
 use Rattle.nif_base.specs.Shelf.{Files}
-use Rattle.nif_schema.specs.Schema.{Schema}
+use Rattle.nif_schema.specs.Schema.{Schema, IsSchema}
 use Rattle.nif_schema.specs.declared.faults.SchemaFault.TheVariants as schema_faults
-use Rattle.nif_value.specs.declared.first.FirstFile.{FirstFile}
-use Rattle.nif_file.specs.First.{IsFirst, HasFault}
-use Rattle.nif_tool.specs.Meaning.{FileIs}
-use Rattle.nif_tool.specs.Schemas.{limit, Passes, Refuses}
+use Rattle.nif_graph.specs.declared.parts.GraphParts.{GraphParts}
+use Rattle.nif_file.specs.Files.{IsFile, text_of}
+use Rattle.nif_file.specs.FileFails.{FileFails}
+use Rattle.nif_file.specs.PartsSay.{SaysFile}
+use Rattle.nif_print.specs.Files.{summary_text}
+use Rattle.nif_tool.specs.Command.{SchemaName}
+use Rattle.nif_tool.specs.Meaning.{Copies, FileIs, Refused}
+use Rattle.nif_tool.specs.Schemas.{limit, HasSchema, Passes, Refuses}
 use Rattle.nif_tool.specs.declared.report.Fault.{Fault}
 use Rattle.nif_tool.specs.declared.report.Fault.TheVariants as fault
+use Rattle.nif_tool.specs.declared.files.Accepted.{Accepted}
 
 -- what reading the text of a schema answers
 abbrev pub LoadsText : List ℕ → Files → Result (Vec ℕ Global) Fault → Type 0
@@ -36,14 +42,36 @@ Gets bytes (Ok schema) = IsSomeAnd bytes (λ b. Passes b schema)
 Gets bytes (Err (fault.Schema refusal)) = IsSomeAnd bytes (λ b. Refuses b refusal)
 Gets bytes (Err _) = ⊤
 
--- what reading a plain file answers
-abbrev pub Loads : List ℕ → Files → Result FirstFile Fault → Type 0
-Loads name files (Ok f) = FileIs name files (IsFirst f)
-Loads name files (Err (fault.First refusal)) = FileIs name files (λ bytes. HasFault bytes refusal)
-Loads name files (Err fault.OpenFault) = ⊤
-Loads name files (Err fault.ReadFault) = ⊤
-Loads name files (Err fault.NoMemory) = ⊤
-Loads name files (Err _) = ⊥
+-- The parts say a file, which the bytes of this name spell where they are told.
+pub record IsLoaded (schema : Schema) (name : List ℕ) (files : Option Files) (parts : GraphParts) : Type 0 where
+  pub whole : File
+  pub says : SaysFile schema parts whole
+  pub is : IsFile schema whole (text_of schema whole)
+  pub told : IfSome files (λ d. get d name ≡ Some (text_of schema whole))
+
+-- what reading a file by a schema answers
+abbrev pub Loads : Schema → List ℕ → Option Files → Result GraphParts Fault → Type 0
+Loads schema name files (Ok parts) = IsLoaded schema name files parts
+Loads schema name files (Err (fault.File refusal)) = IfSome files (λ d. FileIs name d (λ bytes. FileFails schema bytes refusal))
+Loads schema name files (Err fault.OpenFault) = ⊤
+Loads schema name files (Err fault.ReadFault) = ⊤
+Loads schema name files (Err fault.NoMemory) = ⊤
+Loads schema name files (Err _) = ⊥
+
+-- The schema of this name passes, and by it the file was read.
+pub record IsAccepted (name : SchemaName) (file : List ℕ) (files : Option Files) (accepted : Accepted) : Type 0 where
+  pub schema : IsSchema accepted.schema
+  pub passes : IfSome files (λ d. HasSchema name d accepted.schema)
+  pub loaded : IsLoaded accepted.schema file files accepted.parts
+
+-- what getting a schema and reading a file by it answers
+abbrev pub AcceptsBy : SchemaName → List ℕ → Option Files → Result Accepted Fault → Type 0
+AcceptsBy name file files (Ok accepted) = IsAccepted name file files accepted
+AcceptsBy name file files (Err refusal) = IfSome files (λ d. Refused name file d refusal)
+
+-- the line of the parts of a file
+abbrev pub parts_summary : GraphParts → List ℕ
+parts_summary parts = summary_text parts.context.version.number (length parts.blocks) parts.bytes parts.nodes
 
 -- what writing bytes to a new file answers
 abbrev pub Stores : {T : Type 0} → List ℕ → List ℕ → Files → Files → Result T Fault → Type 0
@@ -52,5 +80,7 @@ Stores name bytes old new (Err fault.WriteFault) = (n : ℕ) × (new ≡ insert 
 Stores name bytes old new (Err fault.OpenFault) = new ≡ old
 Stores name bytes old new (Err _) = ⊥
 
-abbrev pub StoresTold : {T : Type 0} → List ℕ → List ℕ → Option Files → Option Files → Result T Fault → Type 0
-StoresTold name bytes old new r = IfSome old (λ d. IsSomeAnd new (λ e. Stores name bytes d e r))
+-- what copying a file answers
+abbrev pub CopiesBy : SchemaName → List ℕ → List ℕ → Files → Files → Result Accepted Fault → Type 0
+CopiesBy name file copy old new (Ok accepted) = Copies name file copy old new None (parts_summary accepted.parts)
+CopiesBy name file copy old new (Err refusal) = Copies name file copy old new (Some refusal) []

@@ -5,11 +5,13 @@
 #![tactic(auto)]
 
 pub mod commands;
-pub mod copying;
+pub mod files;
+pub mod laws;
 pub mod lines;
 pub mod real;
 pub mod report;
 pub mod schemas;
+pub mod texts;
 pub mod words;
 
 pub use commands::run;

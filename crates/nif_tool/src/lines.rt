@@ -2,27 +2,13 @@
 ghost use Rattle.std.specs.Prelude.{◌≡◌, ◌≢◌, List, ℕ, OnOk, OnErr, Some};
 ghost use Rattle.nif_base.specs.Outside.{HasCause, Rose};
 ghost use Rattle.nif_stream.specs.Putting.{IsSound, Puts, Fails, HasTaken};
-ghost use Rattle.nif_tool.specs.Lines.{first_fault_text, fault_text, line_of};
+ghost use Rattle.nif_tool.specs.Lines.{fault_text, line_of};
 ghost use Rattle.nif_tool.specs.Meaning.{Prints};
 
 use crate::report::Fault;
 use nif_base::{Sink, WriteFault};
-use nif_print::put_schema_fault;
+use nif_print::{put_file_fault, put_schema_fault};
 use nif_stream::Putter;
-use nif_value::FirstFault;
-
-/// The text of a plain file's fault.
-fn text_of_first(fault: FirstFault) -> &'static [u8]
-    ensures { result.now ≡ first_fault_text fault }
-{
-    match fault {
-        FirstFault::Ended => b"file: ended",
-        FirstFault::Trailing => b"file: trailing",
-        FirstFault::NotFirstForm => b"file: not a plain file",
-        FirstFault::ReadFault => b"read fault",
-        FirstFault::NoMemory => b"no memory",
-    }
-}
 
 /// Puts the text of a fault.
 fn put_text<K: Sink>(fault: &Fault, out: &mut Putter<'_, K>) -> Result<(), WriteFault>
@@ -32,8 +18,8 @@ fn put_text<K: Sink>(fault: &Fault, out: &mut Putter<'_, K>) -> Result<(), Write
 {
     match fault {
         Fault::Schema { fault } => put_schema_fault(fault, out),
-        Fault::First { fault } => out.put(text_of_first(*fault)),
-        Fault::Usage => out.put(b"usage: schema S | copy plain F OUT"),
+        Fault::File { fault } => put_file_fault(fault, out),
+        Fault::Usage => out.put(b"usage: schema S | check S F | copy S F OUT"),
         Fault::OpenFault => out.put(b"open fault"),
         Fault::ReadFault => out.put(b"read fault"),
         Fault::WriteFault => out.put(b"write fault"),

@@ -2,8 +2,8 @@
 ghost use Rattle.std.specs.Prelude.{◌≡◌};
 ghost use Rattle.nif_tool.specs.Report.{status_of};
 
+use nif_file::FileFault;
 use nif_schema::SchemaFault;
-use nif_value::FirstFault;
 
 /// How a command ended; its number, from 0, is the exit status of the program.
 #[derive(Debug, Drop, Clone, Copy, PartialEq, Eq)]
@@ -24,8 +24,8 @@ pub enum Fault {
     Usage,
     /// The schema is refused. The fault is not want of memory.
     Schema { fault: SchemaFault },
-    /// The file has not the form of a plain file. The fault is none of the outside or of memory.
-    First { fault: FirstFault },
+    /// The file is refused. The fault is no fault of a read and not want of memory.
+    File { fault: FileFault },
     /// A file could not be opened or created.
     OpenFault,
     /// A file could not be read.
@@ -55,7 +55,7 @@ impl Report {
             None => Status::Done,
             Some(Fault::Usage) => Status::Usage,
             Some(Fault::Schema { .. }) => Status::SchemaRefused,
-            Some(Fault::First { .. }) => Status::FileRefused,
+            Some(Fault::File { .. }) => Status::FileRefused,
             Some(Fault::OpenFault | Fault::ReadFault | Fault::WriteFault | Fault::PrintFault) =>
                 Status::OutsideFault,
             Some(Fault::NoMemory) => Status::NoMemory,

@@ -1,12 +1,13 @@
 //! Getting a schema: its text is built in, or read from a file, and then read and checked.
 ghost use Rattle.std.specs.Prelude.{◌≡◌, ◌≢◌, ◌≤◌, ◌<◌, Some, Ok, Err, IfSome, IfOk, IfErr, length};
 ghost use Rattle.std.specs.Result.{result_err};
+ghost use Rattle.nif_schema.specs.Schema.{IsSchema};
 ghost use Rattle.nif_schema.specs.declared.faults.SchemaFault.{SchemaFault};
 ghost use Rattle.nif_tool.specs.Command as spec_command;
 ghost use Rattle.nif_tool.specs.Refusals.{refusal_of};
 ghost use Rattle.nif_tool.specs.Words.{schema_name};
 ghost use Rattle.nif_tool.specs.Schemas.{limit, told_bytes};
-ghost use Rattle.nif_tool.specs.Meaning.{files_of, CanAnswer, HasCauses, RefusedFor, ReadFrom};
+ghost use Rattle.nif_tool.specs.Meaning.{files_of, CanLack, HasCauses, RefusedFor, ReadFrom};
 ghost use Rattle.nif_tool.specs.Steps.{LoadsText, Understands, Gets};
 
 use crate::report::Fault;
@@ -25,7 +26,7 @@ const MOST_BYTES: u32 = 1 << 22;
 fn load_text<S: Shelf>(alloc: Global, file: &str, shelf: &mut S) -> Result<Vec<u8>, Fault>
     ensures within { IfOk result (λ v. length v.items ≤ limit) }
     ensures loads { IfSome (files_of (S.desk shelf.old)) (λ d. LoadsText file.now d result) }
-    ensures answers { CanAnswer (spec_command.Schema (spec_command.Named file.now)) (result_err result) }
+    ensures answers { IfErr result (CanLack (spec_command.Named file.now)) }
     ensures faults { IfErr result (λ f. (f ≢ Fault.Usage) × (f ≢ Fault.PrintFault)) }
     ensures files { files_of (S.desk shelf.new) ≡ files_of (S.desk shelf.old) }
     ensures causes { HasCauses (result_err result) (S.open_faults shelf.old) (S.open_faults shelf.new) (S.read_faults shelf.old) (S.read_faults shelf.new) (S.write_faults shelf.old) (S.write_faults shelf.new) }
@@ -60,6 +61,8 @@ fn refusal(fault: SchemaFault) -> Fault
 fn understand(alloc: Global, bytes: &[u8]) -> Result<Checked, Fault>
     requires { length bytes.now ≤ limit }
     ensures value { Understands bytes.now result }
+    ensures schema { IfOk result IsSchema }
+    ensures answers { IfErr result (CanLack spec_command.Plain) }
     ensures faults { IfErr result (λ f. (f ≢ Fault.Usage) × (f ≢ Fault.PrintFault)) }
 {
     let schema = match read_schema(alloc, bytes) {
@@ -79,11 +82,12 @@ pub fn get_schema<S: Shelf>(
     shelf: &mut S,
 ) -> Result<Checked, Fault>
     ensures gets { IfSome (told_bytes (schema_name schema.entry) (files_of (S.desk shelf.old))) (λ bytes. Gets bytes result) }
-    ensures answers { CanAnswer (spec_command.Schema (schema_name schema.entry)) (result_err result) }
+    ensures schema { IfOk result IsSchema }
+    ensures answers { IfErr result (CanLack (schema_name schema.entry)) }
     ensures faults { IfErr result (λ f. (f ≢ Fault.Usage) × (f ≢ Fault.PrintFault)) }
     ensures files { files_of (S.desk shelf.new) ≡ files_of (S.desk shelf.old) }
     ensures causes { HasCauses (result_err result) (S.open_faults shelf.old) (S.open_faults shelf.new) (S.read_faults shelf.old) (S.read_faults shelf.new) (S.write_faults shelf.old) (S.write_faults shelf.new) }
-    ensures read { ReadFrom (spec_command.Schema (schema_name schema.entry)) (result_err result) (S.desk shelf.new) }
+    ensures read { ReadFrom (spec_command.Schema (schema_name schema.entry)) (files_of (S.desk shelf.old)) (result_err result) (S.desk shelf.new) }
     ensures refused { RefusedFor (spec_command.Schema (schema_name schema.entry)) (files_of (S.desk shelf.old)) (result_err result) (S.refused shelf.new) }
 {
     match schema {

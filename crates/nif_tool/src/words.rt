@@ -19,9 +19,20 @@ pub enum SchemaName<'a> {
 #[derive(Debug, Drop, Clone, Copy)]
 pub enum Words<'a> {
     /// `schema S`
-    Schema { schema: SchemaName<'a> },
-    /// `copy plain FROM TO`
-    CopyPlain { from: &'a str, to: &'a str },
+    Schema {
+        schema: SchemaName<'a>,
+    },
+    /// `check S F`
+    Check {
+        schema: SchemaName<'a>,
+        file: &'a str,
+    },
+    /// `copy S F OUT`
+    Copy {
+        schema: SchemaName<'a>,
+        file: &'a str,
+        copy: &'a str,
+    },
 }
 
 /// The schema that a word names.
@@ -42,8 +53,8 @@ pub fn read_words(words: &[String]) -> Option<Words<'_>>
     ensures { option_map command result ≡ command_of words.now }
 {
     match words {
-        [first, schema] => {
-            if first.as_str() == "schema" {
+        [verb, schema] => {
+            if verb.as_str() == "schema" {
                 Some(Words::Schema {
                     schema: read_schema_name(schema.as_str()),
                 })
@@ -51,11 +62,22 @@ pub fn read_words(words: &[String]) -> Option<Words<'_>>
                 None
             }
         }
-        [first, second, from, to] => {
-            if first.as_str() == "copy" && second.as_str() == "plain" {
-                Some(Words::CopyPlain {
-                    from: from.as_str(),
-                    to: to.as_str(),
+        [verb, schema, file] => {
+            if verb.as_str() == "check" {
+                Some(Words::Check {
+                    schema: read_schema_name(schema.as_str()),
+                    file: file.as_str(),
+                })
+            } else {
+                None
+            }
+        }
+        [verb, schema, file, copy] => {
+            if verb.as_str() == "copy" {
+                Some(Words::Copy {
+                    schema: read_schema_name(schema.as_str()),
+                    file: file.as_str(),
+                    copy: copy.as_str(),
                 })
             } else {
                 None

@@ -1,10 +1,18 @@
-use Rattle.std.proofs.Common.{[], refl}
 use Rattle.nif_tool.specs.Meaning.{files_of}
-use Rattle.nif_tool.proofs.Printing.{prints_weaker, copy_refused}
+use Rattle.nif_tool.specs.Words.{schema_name}
+use Rattle.nif_tool.proofs.Printing.{prints_weaker, copy_done, copy_refused}
 use Rattle.nif_tool.proofs.commands.copy_command.Goals as goal
 
 pub returns-in-Ok-clause-answer : goal.returns-in-Ok-clause-answer
-returns-in-Ok-clause-answer g c = ([], g.met.K.Sink.grew_same _, ((tt, (c.in-Ok.ensures.copies, λ _. refl), tt), c.in-Ok.ensures.causes))
+returns-in-Ok-clause-answer g c =
+    let desk = g.S.Shelf.desk in
+    let printed = c.print_summary.ensures.printed in (
+      printed.0,
+      printed.1,
+      prints_weaker c.print_summary.result printed.0 (λ answer text is.
+          copy_done (schema_name c.args.schema) c.args.file.now c.args.to.now (files_of (desk c.args.shelf.now)) (files_of (desk c.copy.new.shelf)) c.in-Ok.accepted _ _ _ _ _ _ answer text
+          c.in-Ok.ensures.copies c.in-Ok.ensures.causes is) printed.2,
+    )
 
 pub returns-in-Err-clause-answer : goal.returns-in-Err-clause-answer
 returns-in-Err-clause-answer g c =
@@ -14,5 +22,6 @@ returns-in-Err-clause-answer g c =
       refused.0,
       refused.1,
       prints_weaker c.refuse.result refused.0 (λ answer text is.
-          copy_refused c.args.from.now c.args.to.now (files_of (desk c.args.shelf.now)) (files_of (desk c.copy.new.shelf)) c.in-Err.fault _ _ _ _ _ _ answer text told.answers told.copies told.causes is) refused.2,
+          copy_refused (schema_name c.args.schema) c.args.file.now c.args.to.now (files_of (desk c.args.shelf.now)) (files_of (desk c.copy.new.shelf)) c.in-Err.fault _ _ _ _ _ _ answer text
+          told.answers told.copies told.causes is) refused.2,
     )

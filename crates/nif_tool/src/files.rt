@@ -1,0 +1,141 @@
+//! Files: one is read whole by a schema, and only then a copy of it is created.
+ghost use Rattle.std.specs.Prelude.{◌≡◌, ◌≢◌, ◌⊎◌, Some, Ok, Err, IfOk, IfErr, IfSome};
+ghost use Rattle.std.specs.Result.{result_err};
+ghost use Rattle.nif_base.specs.File.{File};
+ghost use Rattle.nif_file.specs.Files.{text_of, IsFile};
+ghost use Rattle.nif_file.specs.PartsSay.{SaysFile};
+ghost use Rattle.nif_tool.specs.Command.{Check, Copy};
+ghost use Rattle.nif_tool.specs.Words.{schema_name};
+ghost use Rattle.nif_tool.specs.Meaning.{files_of, CanAnswer, CanFail, HasCauses, RefusedFor, ReadFrom, WhereTold};
+ghost use Rattle.nif_tool.specs.Refusals.{IsFailure};
+ghost use Rattle.nif_tool.specs.Steps.{AcceptsBy, CopiesBy, Loads, Stores};
+
+use crate::report::Fault;
+use crate::schemas::get_schema;
+use crate::words::SchemaName;
+use nif_base::{Failed, Kind, Shelf, WriteFault};
+use nif_check::Checked;
+use nif_file::{FileFault, encode_file};
+use nif_graph::GraphParts;
+use nif_reader::decode_file;
+use std::alloc::Global;
+
+/// A file that was read, and the schema by which it was.
+#[derive(Drop)]
+pub struct Accepted {
+    pub schema: Checked,
+    pub parts: GraphParts,
+}
+
+/// The refusal of a file, a fault of reading it or want of memory.
+fn failure(fault: FileFault) -> Fault
+    ensures { IsFailure fault result }
+{
+    match fault {
+        FileFault::ReadFault => Fault::ReadFault,
+        FileFault::NoMemory => Fault::NoMemory,
+        fault => Fault::File { fault },
+    }
+}
+
+/// Opens a file, and reads it by a schema.
+fn load<S: Shelf>(
+    alloc: Global,
+    schema: &Checked,
+    name: &str,
+    shelf: &mut S,
+) -> Result<GraphParts, Fault>
+    ensures loads { Loads schema.now name.now (files_of (S.desk shelf.old)) result }
+    ensures answers { IfErr result CanFail }
+    ensures faults { IfErr result (λ f. (f ≢ Fault.Usage) × (f ≢ Fault.WriteFault) × (f ≢ Fault.PrintFault)) }
+    ensures files { files_of (S.desk shelf.new) ≡ files_of (S.desk shelf.old) }
+    ensures causes { HasCauses (result_err result) (S.open_faults shelf.old) (S.open_faults shelf.new) (S.read_faults shelf.old) (S.read_faults shelf.new) (S.write_faults shelf.old) (S.write_faults shelf.new) }
+    ensures input { result_err result ≡ Some Fault.ReadFault → IfSome (S.desk shelf.new) (λ d. d.input ≡ Some name.now) }
+    ensures refused { result_err result ≡ Some Fault.OpenFault → IfSome (S.refused shelf.new) (λ r. (r.kind ≡ Kind.Input) × (r.name ≡ name.now)) }
+{
+    match shelf.open_input(name) {
+        Ok(()) => {}
+        Err(Failed) => return Err(Fault::OpenFault),
+    }
+    match decode_file(alloc, schema, shelf) {
+        Ok(parts) => Ok(parts),
+        Err(fault) => Err(failure(fault)),
+    }
+}
+
+/// Gets a schema, and reads a file by it.
+pub fn accept<S: Shelf>(
+    alloc: Global,
+    schema: SchemaName<'_>,
+    file: &str,
+    shelf: &mut S,
+) -> Result<Accepted, Fault>
+    ensures accepts { AcceptsBy (schema_name schema.entry) file.now (files_of (S.desk shelf.old)) result }
+    ensures answers { IfErr result CanFail }
+    ensures faults { IfErr result (λ f. (f ≢ Fault.Usage) × (f ≢ Fault.WriteFault) × (f ≢ Fault.PrintFault)) }
+    ensures files { files_of (S.desk shelf.new) ≡ files_of (S.desk shelf.old) }
+    ensures causes { HasCauses (result_err result) (S.open_faults shelf.old) (S.open_faults shelf.new) (S.read_faults shelf.old) (S.read_faults shelf.new) (S.write_faults shelf.old) (S.write_faults shelf.new) }
+    ensures read { ReadFrom (Check (schema_name schema.entry) file.now) (files_of (S.desk shelf.old)) (result_err result) (S.desk shelf.new) }
+    ensures refused { RefusedFor (Check (schema_name schema.entry) file.now) (files_of (S.desk shelf.old)) (result_err result) (S.refused shelf.new) }
+{
+    let checked = match get_schema(alloc, schema, shelf) {
+        Ok(checked) => checked,
+        Err(fault) => return Err(fault),
+    };
+    match load(alloc, &checked, file, shelf) {
+        Ok(parts) => Ok(Accepted {
+            schema: checked,
+            parts,
+        }),
+        Err(fault) => Err(fault),
+    }
+}
+
+/// Creates a file, and writes the parts of a file to it. It takes no memory.
+fn store<S: Shelf>(
+    schema: &Checked,
+    parts: &GraphParts,
+    name: &str,
+    shelf: &mut S,
+) -> Result<(), Fault>
+    requires { (whole : File) × SaysFile schema.now parts.now whole × IsFile schema.now whole (text_of schema.now whole) }
+    ensures faults { IfErr result (λ f. (f ≡ Fault.OpenFault) ⊎ (f ≡ Fault.WriteFault)) }
+    ensures stores { (whole : File) → SaysFile schema.now parts.now whole
+        → WhereTold (files_of (S.desk shelf.old)) (files_of (S.desk shelf.new)) (λ d e. Stores name.now (text_of schema.now whole) d e result) }
+    ensures causes { HasCauses (result_err result) (S.open_faults shelf.old) (S.open_faults shelf.new) (S.read_faults shelf.old) (S.read_faults shelf.new) (S.write_faults shelf.old) (S.write_faults shelf.new) }
+    ensures refused { result_err result ≡ Some Fault.OpenFault → IfSome (S.refused shelf.new) (λ r. (r.kind ≡ Kind.Output) × (r.name ≡ name.now)) }
+{
+    match shelf.create_output(name) {
+        Ok(()) => {}
+        Err(Failed) => return Err(Fault::OpenFault),
+    }
+    match encode_file(schema.schema(), parts, shelf) {
+        Ok(()) => Ok(()),
+        Err(WriteFault) => Err(Fault::WriteFault),
+    }
+}
+
+/// Copies a file that its schema accepts.
+pub fn copy<S: Shelf>(
+    alloc: Global,
+    schema: SchemaName<'_>,
+    file: &str,
+    to: &str,
+    shelf: &mut S,
+) -> Result<Accepted, Fault>
+    ensures copies { WhereTold (files_of (S.desk shelf.old)) (files_of (S.desk shelf.new)) (λ d e. CopiesBy (schema_name schema.entry) file.now to.now d e result) }
+    ensures answers { CanAnswer (Copy (schema_name schema.entry) file.now to.now) (result_err result) }
+    ensures faults { IfErr result (λ f. (f ≢ Fault.Usage) × (f ≢ Fault.PrintFault)) }
+    ensures causes { HasCauses (result_err result) (S.open_faults shelf.old) (S.open_faults shelf.new) (S.read_faults shelf.old) (S.read_faults shelf.new) (S.write_faults shelf.old) (S.write_faults shelf.new) }
+    ensures read { ReadFrom (Copy (schema_name schema.entry) file.now to.now) (files_of (S.desk shelf.old)) (result_err result) (S.desk shelf.new) }
+    ensures refused { RefusedFor (Copy (schema_name schema.entry) file.now to.now) (files_of (S.desk shelf.old)) (result_err result) (S.refused shelf.new) }
+{
+    let accepted = match accept(alloc, schema, file, shelf) {
+        Ok(accepted) => accepted,
+        Err(fault) => return Err(fault),
+    };
+    match store(&accepted.schema, &accepted.parts, to, shelf) {
+        Ok(()) => Ok(accepted),
+        Err(fault) => Err(fault),
+    }
+}

@@ -1,0 +1,72 @@
+//! What is printed where a command is done.
+ghost use Rattle.std.specs.Prelude.{◌≡◌, ℕ, List, None, Some, OnOk, OnErr};
+ghost use Rattle.nif_stream.specs.Putting.{HasTaken};
+ghost use Rattle.nif_base.specs.Outside.{HasCause, Rose};
+ghost use Rattle.nif_print.specs.Listing.{IsListing};
+ghost use Rattle.nif_tool.specs.Meaning.{Prints};
+ghost use Rattle.nif_tool.specs.Steps.{parts_summary};
+
+use crate::report::Fault;
+use nif_base::{Sink, WriteFault};
+use nif_check::Checked;
+use nif_graph::GraphParts;
+use nif_print::{put_summary, schema_list};
+use nif_stream::Putter;
+
+/// Writes what is printed of a schema.
+#[tactic(auto, using(nif_stream::proofs::PutterLaws::puts))]
+fn write_list<K: Sink>(checked: &Checked, out: &mut K) -> Result<(), WriteFault>
+    ensures ok { OnOk result ((text : List ℕ) × IsListing checked.now text × K.grew out.old text out.new) }
+    ensures err { OnErr result ((text : List ℕ) × IsListing checked.now text × HasTaken K.grew out.old out.new text) }
+    ensures cause { HasCause (K.write_faults out.old) (K.write_faults out.new) result }
+{
+    let mut putter = Putter::new(out);
+    match schema_list(checked, &mut putter) {
+        Ok(()) => {}
+        Err(WriteFault) => return Err(WriteFault),
+    }
+    putter.finish()
+}
+
+/// Prints a schema; where that fails, the first of the text was printed.
+pub fn print_list<K: Sink>(checked: &Checked, out: &mut K) -> Option<Fault>
+    ensures printed { (text : List ℕ) × K.grew out.old text out.new × Prints (λ answer whole. (answer ≡ None) × IsListing checked.now whole) result text }
+    ensures cause { result ≡ Some Fault.PrintFault → Rose (K.write_faults out.old) (K.write_faults out.new) }
+{
+    match write_list(checked, out) {
+        Ok(()) => None,
+        Err(WriteFault) => Some(Fault::PrintFault),
+    }
+}
+
+/// Writes the line of a file.
+#[tactic(auto, using(nif_stream::proofs::PutterLaws::puts))]
+fn write_summary<K: Sink>(parts: &GraphParts, out: &mut K) -> Result<(), WriteFault>
+    ensures ok { OnOk result (K.grew out.old (parts_summary parts.now) out.new) }
+    ensures err { OnErr result (HasTaken K.grew out.old out.new (parts_summary parts.now)) }
+    ensures cause { HasCause (K.write_faults out.old) (K.write_faults out.new) result }
+{
+    let mut putter = Putter::new(out);
+    match put_summary(
+        parts.context.version,
+        parts.blocks.len(),
+        parts.bytes,
+        parts.nodes,
+        &mut putter,
+    ) {
+        Ok(()) => {}
+        Err(WriteFault) => return Err(WriteFault),
+    }
+    putter.finish()
+}
+
+/// Prints the line of a file; where that fails, the first of it was printed. It takes no memory.
+pub fn print_summary<K: Sink>(parts: &GraphParts, out: &mut K) -> Option<Fault>
+    ensures printed { (text : List ℕ) × K.grew out.old text out.new × Prints (λ answer whole. (answer ≡ None) × (whole ≡ parts_summary parts.now)) result text }
+    ensures cause { result ≡ Some Fault.PrintFault → Rose (K.write_faults out.old) (K.write_faults out.new) }
+{
+    match write_summary(parts, out) {
+        Ok(()) => None,
+        Err(WriteFault) => Some(Fault::PrintFault),
+    }
+}
