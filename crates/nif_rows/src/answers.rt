@@ -1,6 +1,7 @@
 //! Running a line of words over a shelf in memory.
 use nif_base::{MemShelf, MemSink};
-use nif_tool::{Status, run};
+use nif_builtin::builtin::PLAIN;
+use nif_tool::{Fault, Status, run};
 use std::alloc::Global;
 use std::process::Abort;
 use std::test::Fail;
@@ -23,15 +24,16 @@ pub struct Setting {
     pub unprinted: Option<u64>,
 }
 
-/// What a line came to: its status, what was printed, and OUT if it is there.
+/// What a line came to: its status, whether printing failed, what was printed, and OUT if it is there.
 #[derive(Drop)]
 pub struct Answer {
     pub status: Status,
+    pub unprinted: bool,
     pub printed: Vec<u8>,
     pub made: Option<Vec<u8>>,
 }
 
-/// Runs a line on a shelf that has `file` as F. No other file than OUT changes.
+/// Runs a line on a shelf that has `file` as F, and the schema `plain` as `plain.xml`. No other file than OUT changes.
 pub fn run_line<R: Abort + AllocGlobal>(
     rt: &R,
     line: &str,
@@ -44,20 +46,21 @@ pub fn run_line<R: Abort + AllocGlobal>(
     let alloc = rt.alloc();
     let mut shelf = MemShelf::new(alloc, setting.piece);
     shelf.put("F", file)?;
-    shelf.put("other", b"kept")?;
+    shelf.put("plain.xml", PLAIN)?;
     if let Some(call) = setting.failing {
         shelf.fail_call(call)?;
     }
     let mut out = MemSink::new(alloc, setting.piece, setting.unprinted);
     let report = run(alloc, words(alloc, line)?.as_slice(), &mut shelf, &mut out);
     assert_eq!(rt; shelf.file("F"), Some(file));
-    assert_eq!(rt; shelf.file("other"), Some(b"kept".as_slice()));
+    assert_eq!(rt; shelf.file("plain.xml"), Some(PLAIN));
     let made = match shelf.file("OUT") {
         Some(bytes) => Some(Vec::from_slice(alloc, bytes)?),
         None => None,
     };
     Ok(Answer {
         status: report.status,
+        unprinted: matches!(&report.fault, Some(Fault::PrintFault)),
         printed: Vec::from_slice(alloc, out.bytes())?,
         made,
     })

@@ -1,9 +1,13 @@
 //! Each call that takes memory, once where memory suffices.
-use crate::files::no_block;
+use crate::files::THREE_BLOCKS;
 use nif_base::{
     AllFault, MemShelf, MemSink, MemSource, Numbers, Shelf, Word, read_all, read_at_most, write_all,
 };
-use nif_file::{decode_first, encode_first};
+use nif_builtin::builtin::SCENE;
+use nif_check::check;
+use nif_file::encode_file;
+use nif_read::read_schema;
+use nif_reader::decode_file;
 use std::test::Fail;
 
 #[test]
@@ -60,10 +64,16 @@ fn keeps_files(rt: HostRuntime) -> Result<(), Fail> {
 
 #[test]
 fn decodes_and_encodes(rt: HostRuntime) -> Result<(), Fail> {
-    let bytes = no_block(rt.alloc())?;
-    let file = decode_first(rt.alloc(), &mut MemSource::new(bytes.as_slice(), 9, None))?;
-    let mut sink = MemSink::new(rt.alloc(), 5, None);
-    encode_first(&file, &mut sink)?;
-    assert_eq!(rt; sink.bytes(), bytes.as_slice());
+    let alloc = rt.alloc();
+    let checked = check(alloc, read_schema(alloc, SCENE)?)?;
+    let mut source = MemSource::new(THREE_BLOCKS, 9, None);
+    let parts = decode_file(alloc, &checked, &mut source)?;
+    assert_eq!(rt;
+        (parts.blocks.len(), parts.bytes, parts.nodes),
+        (3, 219, 85)
+    );
+    let mut sink = MemSink::new(alloc, 5, None);
+    encode_file(checked.schema(), &parts, &mut sink)?;
+    assert_eq!(rt; sink.bytes(), THREE_BLOCKS);
     Ok(())
 }

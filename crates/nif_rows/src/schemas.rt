@@ -1,5 +1,5 @@
 //! `schema S` over a shelf in memory.
-use crate::answers::{Setting, failing, run_line, whole};
+use crate::answers::{failing, run_line, whole};
 use nif_builtin::builtin::PLAIN;
 use nif_tool::Status;
 use std::alloc::Global;
@@ -117,41 +117,6 @@ fn answers_a_refused_call(rt: HostRuntime) -> Result<(), Fail> {
         let got = run_line(&rt, "schema F", text, failing(4096, call))?;
         assert_eq!(rt; got.status, Status::OutsideFault, "at call {call}");
         assert_eq!(rt; got.printed.as_slice(), line, "at call {call}");
-    }
-    Ok(())
-}
-
-#[test]
-fn prints_the_first_of_a_text(rt: HostRuntime) -> Result<(), Fail> {
-    for (line, file, text) in [
-        (
-            "schema scene",
-            PLAIN,
-            b"types 35 open 35 closed 0\n".as_slice(),
-        ),
-        ("schema F", b"<other/>", b"nif: schema S2: no root\n"),
-        (
-            "schema",
-            PLAIN,
-            b"nif: usage: schema S | copy plain F OUT\n",
-        ),
-        ("schema missing", PLAIN, b"nif: open fault\n"),
-    ] {
-        for write in 0u64..6 {
-            let printed = write as usize * 7;
-            let setting = Setting {
-                piece: 7,
-                failing: None,
-                unprinted: Some(write),
-            };
-            let got = run_line(&rt, line, file, setting)?;
-            if printed < text.len() {
-                assert_eq!(rt; got.status, Status::OutsideFault, "at {line}");
-                assert_eq!(rt; got.printed.as_slice(), &text[..printed], "at {line}");
-            } else {
-                assert_eq!(rt; got.printed.as_slice(), text, "at {line}");
-            }
-        }
     }
     Ok(())
 }

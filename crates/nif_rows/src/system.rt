@@ -1,6 +1,6 @@
 //! The real shelf, once, on files of the test's own.
 use crate::answers::words;
-use crate::files::one_block;
+use crate::files::{ONE_BLOCK, ONE_BLOCK_LINE};
 use nif_base::MemSink;
 use nif_tool::{RealShelf, Status, run};
 use std::fs;
@@ -14,8 +14,7 @@ fn copies_a_real_file(rt: HostRuntime) -> Result<(), Fail> {
     let now = SystemTime::now(&rt)?.duration_since(UNIX_EPOCH)?.as_nanos();
     let from = format!(in alloc; "/tmp/nif_rows_{now}.nif")?;
     let to = format!(in alloc; "/tmp/nif_rows_{now}_copy.nif")?;
-    let bytes = one_block(alloc)?;
-    fs::write(&rt, from.as_str(), bytes.as_slice())?;
+    fs::write(&rt, from.as_str(), ONE_BLOCK)?;
     let mut out = MemSink::new(alloc, 1, None);
 
     let line = format!(in alloc; "copy plain {from} {to}")?;
@@ -26,7 +25,8 @@ fn copies_a_real_file(rt: HostRuntime) -> Result<(), Fail> {
         &mut out,
     );
     assert_eq!(rt; report.status, Status::Done);
-    assert_eq!(rt; fs::read(&rt, to.as_str())?.as_slice(), bytes.as_slice());
+    assert_eq!(rt; out.bytes(), ONE_BLOCK_LINE);
+    assert_eq!(rt; fs::read(&rt, to.as_str())?.as_slice(), ONE_BLOCK);
 
     fs::remove_file(&rt, from.as_str())?;
     fs::remove_file(&rt, to.as_str())?;
