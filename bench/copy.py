@@ -3,11 +3,11 @@
 
     bench/copy.py [PROGRAM]        PROGRAM: crates/nif/out/nif, as `rt run` in crates/nif builds it
 
-It makes scenes of version 20.2.0.7 of 1, 4, 16 and 64 MiB in three shapes: many small blocks, few long runs of bytes, and
-long strips. A file has at most 2^26 bytes, 2^20 blocks and 2^24 nodes, so that the last of a shape is the longest that it
-has within these. For each it prints the best of three runs: seconds and bytes a second of `check` and of `copy`, the most
-memory that either held, how much the time of `copy` grew beside the size (about 1.0 is linear), and what `cp` takes. It is
-no part of the tests.
+It makes scenes of version 20.2.0.7 of 1, 4, 16 and 64 MiB in three shapes: many small blocks, few long runs of bytes,
+and long strips. A file has at most 2^26 bytes, 2^20 blocks and 2^24 nodes, so that the last of a shape is the longest
+that it has within these. For each it prints the best of three runs: seconds and bytes a second of `check` and of
+`copy`, the most memory that either held, how much the time of `copy` grew beside the size (about 1.0 is linear), and
+what `cp` takes. It is no part of the tests.
 """
 import filecmp, os, struct, subprocess, sys, tempfile, time
 

@@ -4,8 +4,8 @@
     bench/schema.py [PROGRAM]        PROGRAM: crates/nif/out/nif, as `rt run` in crates/nif builds it
 
 For each shape it makes texts of 0.5, 1, 2 and 4 MiB and prints the best of three runs, and how the time grew when the
-size doubled: about 2 is linear. Different rests of two names may grow by 2.8. Exit status 0 (listed) and 3 (refused) are
-both fine. It is no part of the tests.
+size doubled: about 2 is linear. Different paths of two names may grow by 2.8. Exit status 0 (listed) and 3 (refused)
+are both fine. It is no part of the tests.
 """
 import os, resource, subprocess, sys, tempfile, time
 
