@@ -1,5 +1,6 @@
 //! `nif`: the words after the program's name are a command, which `nif_tool` runs over the system's files and
-//! standard output; its status is the exit status. Words that are no UTF-8 are answered as no words at all.
+//! standard output; its status is the exit status. Words that are no UTF-8 are answered as no words at all. It promises
+//! nothing itself: what a command does is said by the contract of `nif_tool::run`.
 #![tactic(auto)]
 
 use nif_tool::{Fault, RealShelf, Report, WriterSink, refuse, run};

@@ -1,4 +1,5 @@
-//! Tests alone: schema texts through `read_schema` and `check`, with the rule that they break or the types that are open.
+//! Tests alone: schema texts through `read_schema` and `check`, with the rule that they break or the types that are
+//! open.
 #![tactic(auto)]
 
 #[cfg(test)]

@@ -5,8 +5,8 @@ use nif_base::MemSource;
 use nif_builtin::builtin::SCENE;
 use std::test::Fail;
 
-/// Where the greatest count of four bytes stands in place of the number of blocks, of the length of a string, and of the
-/// number of strings, and why the file is refused. The strings go on through the blocks, until one is too long.
+/// Where the greatest count of four bytes stands in place of the number of blocks, of the length of a string, and of
+/// the number of strings, and why the file is refused. The strings go on through the blocks, until one is too long.
 const COUNTS: [(usize, Why); 3] = [
     (
         48,

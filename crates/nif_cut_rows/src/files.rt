@@ -12,26 +12,22 @@ pub const ONE_BLOCK_PARTS: &[u64] = &[0, 40, 44, 48, 63, 67, 71];
 pub const THREE_BLOCKS: &[u8] =
     b"Gamebryo File Format, Version 20.2.0.7\n\x07\0\x02\x14\x01\x0c\0\0\0\x03\0\0\0\x53\0\0\0\0\0\0\x03\0\x09\0\0\0SceneNode\x0a\0\0\0SceneShape\x0a\0\0\0SceneImage\0\0\x01\0\x02\0\x11\0\0\0\x1e\0\0\0\x08\0\0\0\x02\0\0\0\x05\0\0\0\x05\0\0\0Scene\x03\0\0\0Box\0\0\0\0\0\0\0\0\x01\0\0\0\x01\0\0\0\x01\0\0\0\x01\x01\0\0\0\x03\0\x03\0\0\0\x02\0\x01\0\x02\0\x03\0\x04\0\x05\0\0\0\0\0\x02\0\0\0\x04\0\0\0\xde\xad\xbe\xef\x03\0\0\0\0\0\0\0\x01\0\0\0\x02\0\0\0";
 
+/// The line, the version, the byte order, the user version, the number of blocks, the BS version, the lengths of three
+/// empty texts; the number of types, three names with their lengths before them; three index words, three sizes; the
+/// number of strings, the most of a length, two strings with their lengths before them; the number of groups. The node:
+/// its name, the number of children, a child, the target, whether it is visible. The shape: its name, the number of
+/// strips, three lengths, three points, none, two, its parent, its image. The image: the number of its bytes, the
+/// bytes. The number of roots, three roots.
 pub const THREE_BLOCKS_PARTS: &[u64] = &[
-    // the line, the version, the byte order, the user version, the number of blocks, the BS version
-    0, 39, 43, 44, 48, 52, // the lengths of three empty texts
-    56, 57, 58, // the number of types, and each name with its length before it
-    59, 61, 65, 74, 78, 88, 92, // the index words, the sizes
-    102, 104, 106, 108, 112, 116, // the number of strings, the most of a length, each string with its length before it
-    120, 124, 128, 132, 137, 141, // the number of groups
-    144, // the node: its name, the number of children, a child, the target, whether it is visible
-    148, 152, 156, 160, 164, // the shape: its name, the number of strips, three lengths
-    165, 169, 171, 173, 175, // three points, none, two
-    177, 179, 181, 183, 185, // its parent, its image
-    187, 191, // the image: the number of its bytes, the bytes
-    195, 199, // the number of roots, three roots
-    203, 207, 211, 215,
+    0, 39, 43, 44, 48, 52, 56, 57, 58, 59, 61, 65, 74, 78, 88, 92, 102, 104, 106, 108, 112, 116,
+    120, 124, 128, 132, 137, 141, 144, 148, 152, 156, 160, 164, 165, 169, 171, 173, 175, 177, 179,
+    181, 183, 185, 187, 191, 195, 199, 203, 207, 211, 215,
 ];
 
 /// A scene of version 10.1.0.106 with a switch: 85 bytes.
 pub const ZERO_WORD: &[u8] =
     b"Gamebryo File Format, Version 10.1.0.106\n\x6a\0\x01\x0a\0\0\0\0\x01\0\0\0\x01\0\x0b\0\0\0SceneSwitch\0\0\0\0\0\0\0\0\0\0\x01\0\0\0\0";
 
-/// The line, the version, the user version, the number of blocks; the number of types, a name with its length before it;
-/// the index word, the number of groups; the zero word, the value; the number of roots.
+/// The line, the version, the user version, the number of blocks; the number of types, a name with its length before
+/// it; the index word, the number of groups; the zero word, the value; the number of roots.
 pub const ZERO_WORD_PARTS: &[u64] = &[0, 41, 45, 49, 53, 55, 59, 70, 72, 76, 80, 81];

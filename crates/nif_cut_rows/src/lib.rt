@@ -1,5 +1,5 @@
-//! Tests alone: files that are cut at each length, counts that no file can meet, and sources of more bytes than are needed,
-//! through `decode_file`.
+//! Tests alone: files that are cut at each length, counts that no file can meet, and sources of more bytes than are
+//! needed, through `decode_file`.
 #![tactic(auto)]
 
 #[cfg(test)]

@@ -1,4 +1,5 @@
--- The bytes of the header: the members up to and with `Endian Type` are little, the others are in the order of the file.
+-- The bytes of the header: the members up to and with `Endian Type` are little, the others are in the order of the
+-- file.
 use Rattle.std.proofs.Common.{◌≡◌, ◌≤◌, ℕ, zero, suc, ◌+◌, ◌-◌, ◌==◌, ◌||◌, ◌&&◌, Bool, true, false, if◌then◌else◌, not, Option, Some, None, List, [], ◌∷◌, ◌++◌, length, slice_get, refl, sym, ◌∙◌, ap, subst, arith, append_assoc, true≢false}
 use Rattle.std.specs.Prelude.{codes, bytes_eq, filter}
 use Rattle.std.specs.List.{list_any}

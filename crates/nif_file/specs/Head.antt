@@ -93,7 +93,7 @@ row_in _ = []
 abbrev pub type_names : Env → List Name
 type_names E = row_in (member (codes "Block Types") E)
 
--- The entry of a block in the index of types. A file that has one is indexed.
+-- The entry of a block in the index of types. A file whose header has that index is indexed.
 abbrev pub index_word : Env → ℕ → Option ℕ
 index_word E block = option_map (number_at_item false block) (member (codes "Block Type Index") E)
 

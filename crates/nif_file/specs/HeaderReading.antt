@@ -33,8 +33,8 @@ use Rattle.nif_file.specs.Heads.{IsHead, IsNext, IsPart, ArePlaces, context_of}
 
 -- ---- why there is no header
 
--- Reading the header of a file of so many bytes stops so: a member fails or is refused, or behind all of them the list of
--- types is missing.
+-- Reading the header of a file of so many bytes stops so: a member fails or is refused, or behind all of them the list
+-- of types is missing.
 abbrev pub HeaderStops : Schema → ℕ → Point → Stop → Type 0
 HeaderStops S total at stop =
     HeaderFails S total at stop
@@ -100,8 +100,8 @@ pub record Notes (S : Schema) (E : Env) (f : Field) (got : Option Node) (head : 
   pub told : IsHead S (behind f got E) head
   pub refused : refusal ≡ option_map (λ stop. stop.fault) (header_check S E f got)
 
--- The reader stands behind the first members: they were taken from the first byte on, are kept and told, and stand in the tree that is
--- being built.
+-- The reader stands behind the first members: they were taken from the first byte on, are kept and told, and stand in
+-- the tree that is being built.
 pub record StandsAt {S : Type 0} (left : S → Option (List ℕ)) (still : S → S → Type 0) (faults : S → ℕ) (schema : Schema) (header count : ℕ) (start now : Taker S) (entries : List Entry) (building : Option Building) (counted : ℕ) (head : Head) : Type 0 where
   pub held : Members
   pub bytes : List ℕ

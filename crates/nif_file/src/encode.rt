@@ -28,6 +28,7 @@ const FIRST_ZERO: u32 = 0x0500_0001;
 /// The last version in which one does.
 const LAST_ZERO: u32 = 0x0A01_006A;
 
+/// Whether a field has this name.
 fn is_named(of: &Field, name: &[u8]) -> bool
     ensures { result ≡ is_named name.now (field of.now) }
 {
@@ -229,7 +230,8 @@ fn write_parts<K: Sink>(schema: &Schema, parts: &GraphParts, sink: &mut K) -> Re
     out.finish()
 }
 
-/// Writes the file that the parts say. It takes no memory; where a write fails, the sink has the first of the bytes.
+/// Writes the bytes of the file that the parts stand for (`docs/FILES.md`). It takes no memory. A fault comes only
+/// where the sink's count of failed writes rose in this call, and then the sink has a prefix of the bytes.
 pub fn encode_file<K: Sink>(
     schema: &Schema,
     parts: &GraphParts,

@@ -240,8 +240,9 @@ fn read_members<S: Source>(
     Ok(())
 }
 
-/// Reads the header of a file, from its first byte, into a new tree. A fault lets the tree go that was begun, and changes
-/// no other; the taker may then have moved.
+/// Reads the header of a file, from its first byte, into a new tree. Its first fault is answered exactly where it has
+/// one (`docs/FILES.md` says each), `ReadFault` only where a read failed in this call, and `NoMemory` where memory ran
+/// out. After a fault the tree that was begun is dropped, no other has changed, and the taker may have moved.
 pub fn read_header<S: Source>(
     alloc: Global,
     schema: &Schema,
@@ -257,6 +258,7 @@ pub fn read_header<S: Source>(
     ensures building { store.new.building ≡ None }
     ensures reads { ReadsHeader S.left S.still S.read_faults schema.now taker.old taker.new store.old store.new result }
 {
+    // The contract of `count` says that the names of a schema are different, and its basics of their kinds.
     let _declarations = schema.count();
     match begin(store) {
         Ok(()) => {}

@@ -192,8 +192,8 @@ impl Head {
         }
     }
 
-    /// Adds a member that is present behind those before it, by its name, its number, and the number of its `BS Version`;
-    /// a number is 0 where there is none.
+    /// Adds a member that is present behind those before it, by its name, its number, and the number of its
+    /// `BS Version`; a number is 0 where there is none.
     pub(crate) fn add(&mut self, name: &[u8], number: u64, inner: u64)
         requires { IsSmall name.now number inner }
         ensures { (S : Schema) (E : Env) (earlier : Earlier) (f : Field) (at : Node) → IsHead S (earlier ∷ E) self.old → f.name ≡ name.now → number ≡ number_in false at

@@ -3,8 +3,8 @@ ghost use Rattle.nif_schema.specs.Schema.{Schema, IsSchema};
 ghost use Rattle.nif_schema.specs.Roles.{Roles};
 ghost use Rattle.nif_file.specs.FileLaws.{FileOrFault, KnownWithin, OneFile, OnePlace, SizeIsLength};
 
-/// By a schema that keeps the rules of roles, bytes spell one file, or they have one first fault, known at one place that
-/// lies within them, and not both.
+/// By a schema that keeps the nine rules of the header, bytes spell one file, or they have one first fault, known at
+/// one place that lies within them, and not both.
 pub fn one_file_or_fault()
     ensures outcome { (S : Schema) → IsSchema S → Roles S → FileOrFault S }
     ensures file { (S : Schema) → IsSchema S → Roles S → OneFile S }

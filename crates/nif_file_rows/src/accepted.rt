@@ -60,8 +60,8 @@ fn accepts_plain_files(rt: HostRuntime) -> Result<(), Fail> {
     Ok(())
 }
 
-/// Scenes with other bytes at a place, that have the same blocks and nodes: a reference to none, the high bit of an index
-/// word, and big numbers where there is none but zero.
+/// Scenes with other bytes at a place, that have the same blocks and nodes: a reference to none, the high bit of an
+/// index word, and big numbers where there is none but zero.
 const CHANGES: [(&[u8], usize, &[u8], &str); 3] = [
     (
         THREE_BLOCKS,

@@ -21,20 +21,21 @@ pub struct Schema<'a> {
     pub text: &'a [u8],
 }
 
-/// The schemas that are built in.
+/// The schema `plain`, which is built in.
 pub const PLAIN: Schema<'static> = Schema {
     word: "plain",
     text: b"",
 };
 
+/// The schema `scene`, which is built in.
 pub const SCENE: Schema<'static> = Schema {
     word: "scene",
     text: b"",
 };
 
 /// Runs a line on a shelf that has `file` as F and the text of the schema, and gives and takes at most `piece` bytes a
-/// call. The answer has this status and prints this text and a line feed, and OUT is there if `copies` says so, with the
-/// bytes of F.
+/// call. The answer has this status and prints this text and a line feed, and OUT is there if `copies` says so, with
+/// the bytes of F.
 pub fn run_line<R: Abort + AllocGlobal>(
     rt: &R,
     line: &str,
@@ -65,8 +66,8 @@ pub fn run_line<R: Abort + AllocGlobal>(
     Ok(())
 }
 
-/// Checks and copies a file by a schema, in pieces of many sizes. The answer is always this text; it begins with `ok` where
-/// the file is accepted.
+/// Checks and copies a file by a schema, in pieces of many sizes. The answer is always this text; it begins with `ok`
+/// where the file is accepted.
 pub fn answers<R: Abort + AllocGlobal>(
     rt: &R,
     schema: Schema<'_>,

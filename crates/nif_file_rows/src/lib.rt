@@ -1,5 +1,5 @@
-//! Tests alone: files, accepted and refused, through `check` and `copy` over a shelf in memory, in pieces of many sizes, with
-//! the line that is printed of each.
+//! Tests alone: files, accepted and refused, through `check` and `copy` over a shelf in memory, in pieces of many
+//! sizes, with the line that is printed of each.
 #![tactic(auto)]
 
 #[cfg(test)]

@@ -64,8 +64,8 @@ const TEXTS: [(&[u8], &[u8], &[u8], &str); 3] = [
     ),
 ];
 
-/// By the number of the text, files and what they come to: a closed type; a run as long as four bits of a number say, and a
-/// member that is there where four others are 2; an index without names of types.
+/// By the number of the text, files and what they come to: a closed type; a run as long as four bits of a number say,
+/// and a member that is there where four others are 2; an index without names of types.
 const FILES: [(usize, &[u8], &str); 5] = [
     (0, NO_BLOCK, "ok 4.0.0.2 blocks 0 bytes 52 nodes 7"),
     (

@@ -63,7 +63,7 @@ pub fn read_lists(
     requires roles { Roles schema.now }
     ensures { IfOk result (λ lists. IfSome (find store.now.trees header.run.key) (λ node. AreListsOf schema.now (head_of schema.now (members_of node)) lists)) }
 {
-    // In a schema the basics are what their names say.
+    // The contract of `count` says that the names of a schema are different, and its basics of their kinds.
     let _declarations = schema.count();
     gather(alloc, schema, store, header, places)
 }

@@ -272,7 +272,8 @@ fn put_totals<K: Sink>(
     put_nodes(nodes, out)
 }
 
-/// Puts the line of a file that is accepted: its version, and how many blocks, bytes and nodes it has. It takes no memory.
+/// Puts the line of a file that is accepted: its version, and how many blocks, bytes and nodes it has. It takes no
+/// memory.
 #[tactic(auto, using(nif_stream::proofs::PutterLaws::puts))]
 pub fn put_summary<K: Sink>(
     version: Version,

@@ -1,6 +1,6 @@
 //! The texts that `nif` prints. It stands on `nif_check` for what is known of a schema, on `nif_file` for the faults of
-//! files, and puts to a `Putter` of `nif_stream`. It promises that each call puts exactly its text, or the first of it where a write failed, and
-//! takes no memory.
+//! files, and puts to a `Putter` of `nif_stream`. It promises that each call puts exactly its text, or a
+//! prefix of it where a write failed, and takes no memory.
 #![tactic(auto)]
 
 pub mod files;

@@ -20,7 +20,8 @@ pub record StopsHere (Stops : Part) (fault : FileFault) (rest : Option (List ℕ
   pub stops : Stops (at.place + length at.left) at (record { fault = fault; known = known })
   pub gone : IfSome rest (λ left. at.place + length at.left ≤ known + 4096 + length left)
 
--- The part was not read, behind so many nodes: a read failed, memory ran out, or the bytes that are left show the fault.
+-- The part was not read, behind so many nodes: a read failed, memory ran out, or the bytes that are left show the
+-- fault.
 pub record Halts {S : Type 0} (left : S → Option (List ℕ)) (still : S → S → Type 0) (faults : S → ℕ) (Stops : Part) (nodes : ℕ) (old new : Taker S) (fault : FileFault) : Type 0 where
   pub went : Went still faults old new
   pub read : fault ≡ file.ReadFault → Rose (faults (source_of old)) (faults (source_of new))

@@ -121,7 +121,7 @@ fn read_parts<S: Source>(
     ensures file { GetsFile S.left S.read_faults checked.now taker.old taker.new result }
 {
     let schema = checked.schema();
-    // In a schema the basics are what their names say.
+    // The contract of `count` says that the names of a schema are different, and its basics of their kinds.
     let _declarations = schema.count();
     let mut store = Store::new(alloc);
     let header = match read_header(alloc, schema, checked.header(), taker, &mut store) {
@@ -156,7 +156,7 @@ fn read_parts<S: Source>(
 
 /// Reads a file by a schema, in whatever pieces its bytes come. F1 to F23 come exactly where the bytes have that first
 /// fault (`docs/FILES.md` says each), and then at most 4,096 bytes beyond those that show it are gone; `ReadFault` only
-/// where a read failed in this call.
+/// where a read failed in this call; `NoMemory` where memory ran out.
 #[tactic(auto, using(nif_stream::proofs::TakerLaws::takes))]
 pub fn decode_file<S: Source>(
     alloc: Global,

@@ -1,6 +1,6 @@
-//! Tests alone: the words of the commands, a refused call of the outside at each place, and printing that fails, through
-//! `run` over a shelf in memory; schemas; the real shelf once; and each call that takes memory once where memory
-//! suffices. What files come to is tested in `nif_file_rows`.
+//! Tests alone: the words of the commands, a refused call of the outside at each place, and printing that fails,
+//! through `run` over a shelf in memory; schemas; the real shelf once; and each call that takes memory once where
+//! memory suffices. What files come to is tested in `nif_file_rows`.
 #![tactic(auto)]
 
 #[cfg(test)]

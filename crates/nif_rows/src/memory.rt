@@ -38,6 +38,7 @@ fn reads_all_bytes(rt: HostRuntime) -> Result<(), Fail> {
     Ok(())
 }
 
+/// Whether a shelf has a file of this name with these bytes.
 fn has(shelf: &MemShelf, name: &str, bytes: &[u8]) -> bool {
     match shelf.file(name) {
         Some(found) => found == bytes,

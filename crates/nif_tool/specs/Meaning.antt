@@ -92,8 +92,8 @@ Checks name file files None text = Accepts name file files (λ schema whole byte
 Checks name file files (Some refusal) text = Refused name file files refusal
 
 -- What an answer to `copy S F OUT` says of the files before and after, and of the text. Done: the file is accepted, its
--- line is printed, and its bytes are those of the copy, which alone is new. A fault of writing: the file is accepted, and
--- the copy has the first of its bytes. After each other answer no file has changed.
+-- line is printed, and its bytes are those of the copy, which alone is new. A fault of writing: the file is accepted,
+-- and the copy has a prefix of its bytes. After each other answer no file has changed.
 abbrev pub Copies : SchemaName → List ℕ → List ℕ → Files → Files → Option Fault → List ℕ → Type 0
 Copies name file copy old new None text =
     Accepts name file old (λ schema whole bytes. (text ≡ summary_of schema whole bytes) × (new ≡ insert old copy bytes))
@@ -135,7 +135,7 @@ pub record HasCauses (answer : Option Fault) (opens opens' reads reads' writes w
   pub reading : answer ≡ Some fault.ReadFault → Rose reads reads'
   pub writing : answer ≡ Some fault.WriteFault → Rose writes writes'
 
--- Where printing failed, the first of the text of another answer, that would have been, was printed; else the whole text.
+-- Where printing failed, a prefix of the text of the answer that would have been was printed; else the whole text.
 abbrev pub Prints : (Option Fault → List ℕ → Type 0) → Option Fault → List ℕ → Type 0
 Prints P (Some fault.PrintFault) text = (answer : Option Fault) × (whole : List ℕ) × (answer ≢ Some fault.PrintFault) × P answer whole × ((n : ℕ) × (text ≡ take n whole))
 Prints P answer text = P answer text

@@ -1,4 +1,5 @@
--- What the steps of a command answer: reading a schema's text, understanding it, reading a file by it, and writing the copy.
+-- What the steps of a command answer: reading a schema's text, understanding it, reading a file by it, and writing the
+-- copy.
 use Rattle.std.specs.Prelude.{◌≡◌, ℕ, ◌<◌, List, [], Ok, Err, None, take, length, Some, IfSome, IsSomeAnd, ⊤, Vec}
 use Rattle.std.specs.declared.option.Option.{Option}
 use Rattle.std.specs.declared.result.Result.{Result}

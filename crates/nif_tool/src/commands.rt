@@ -86,11 +86,11 @@ fn copy_command<S: Shelf, K: Sink>(
 /// Runs the command that the words spell, prints its text or the line of its refusal to `out`, and reports how it
 /// ended. There are `schema S`, `check S F` and `copy S F OUT`, where S is `plain`, `scene` or a file's name.
 ///
-/// The order of work is: words; the schema opened, read and checked; the file opened and read by it; the copy created and
-/// written; the text printed.
+/// The order of work is: words; the schema opened, read and checked; the file opened and read by it; the copy created
+/// and written; the text printed.
 pub fn run<S: Shelf, K: Sink>(alloc: Global, words: &[String], shelf: &mut S, out: &mut K) -> Report
-    // the answer and what is printed are those of the words and the files; where printing failed, the first of that was
-    // printed; and each fault of the shelf comes only where its count rose
+    // the answer and what is printed are those of the words and the files; where printing failed, a prefix of that
+    // was printed; and each fault of the shelf comes only where its count rose
     ensures answer { (text : List ℕ) × K.grew out.old text out.new
         × Prints (λ answer whole. Answers (command_of words.now) (files_of (S.desk shelf.old)) (files_of (S.desk shelf.new)) answer whole
         × HasCauses answer (S.open_faults shelf.old) (S.open_faults shelf.new) (S.read_faults shelf.old) (S.read_faults shelf.new) (S.write_faults shelf.old) (S.write_faults shelf.new)) result.fault text }

@@ -23,7 +23,9 @@ use std::alloc::Global;
 /// A file that was read, and the schema by which it was.
 #[derive(Drop)]
 pub struct Accepted {
+    /// The schema, which passed.
     pub schema: Checked,
+    /// The parts of the file.
     pub parts: GraphParts,
 }
 

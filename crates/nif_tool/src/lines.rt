@@ -58,7 +58,7 @@ fn write_line<K: Sink>(fault: &Fault, out: &mut K) -> Result<(), WriteFault>
     putter.finish()
 }
 
-/// Prints the line of a refusal, and answers the refusal; where that fails, the first of the line was printed.
+/// Prints the line of a refusal, and answers the refusal; where that fails, a prefix of the line was printed.
 pub fn refuse<K: Sink>(fault: Fault, out: &mut K) -> Option<Fault>
     requires { fault ≢ Fault.PrintFault }
     ensures printed { (text : List ℕ) × K.grew out.old text out.new × Prints (λ answer whole. (answer ≡ Some fault) × (whole ≡ line_of fault)) result text }

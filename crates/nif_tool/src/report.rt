@@ -8,12 +8,19 @@ use nif_schema::SchemaFault;
 /// How a command ended; its number, from 0, is the exit status of the program.
 #[derive(Debug, Drop, Clone, Copy, PartialEq, Eq)]
 pub enum Status {
+    /// The command was done.
     Done,
+    /// The file is refused.
     FileRefused,
+    /// The words are no command.
     Usage,
+    /// The schema is refused.
     SchemaRefused,
+    /// An edit is refused. No command of today answers this.
     EditRefused,
+    /// Opening, creating, reading, writing or printing failed.
     OutsideFault,
+    /// Memory ran out.
     NoMemory,
 }
 
@@ -30,9 +37,9 @@ pub enum Fault {
     OpenFault,
     /// A file could not be read.
     ReadFault,
-    /// A file could not be written; it has the first of its bytes.
+    /// A file could not be written; it has a prefix of its bytes.
     WriteFault,
-    /// The text could not be printed; the first of it was.
+    /// The text could not be printed; a prefix of it was.
     PrintFault,
     /// Memory ran out.
     NoMemory,
@@ -41,7 +48,9 @@ pub enum Fault {
 /// How a command ended, and why, if it was not done.
 #[derive(Drop)]
 pub struct Report {
+    /// How it ended.
     pub status: Status,
+    /// Why it was not done, none where it was.
     pub fault: Option<Fault>,
 }
 

@@ -13,7 +13,7 @@ use nif_graph::GraphParts;
 use nif_print::{put_summary, schema_list};
 use nif_stream::Putter;
 
-/// Writes what is printed of a schema.
+/// Writes the listing of a schema.
 #[tactic(auto, using(nif_stream::proofs::PutterLaws::puts))]
 fn write_list<K: Sink>(checked: &Checked, out: &mut K) -> Result<(), WriteFault>
     ensures ok { OnOk result ((text : List ℕ) × IsListing checked.now text × K.grew out.old text out.new) }
@@ -28,7 +28,7 @@ fn write_list<K: Sink>(checked: &Checked, out: &mut K) -> Result<(), WriteFault>
     putter.finish()
 }
 
-/// Prints a schema; where that fails, the first of the text was printed.
+/// Prints the listing of a schema; where that fails, a prefix of it was printed.
 pub fn print_list<K: Sink>(checked: &Checked, out: &mut K) -> Option<Fault>
     ensures printed { (text : List ℕ) × K.grew out.old text out.new × Prints (λ answer whole. (answer ≡ None) × IsListing checked.now whole) result text }
     ensures cause { result ≡ Some Fault.PrintFault → Rose (K.write_faults out.old) (K.write_faults out.new) }
@@ -60,7 +60,7 @@ fn write_summary<K: Sink>(parts: &GraphParts, out: &mut K) -> Result<(), WriteFa
     putter.finish()
 }
 
-/// Prints the line of a file; where that fails, the first of it was printed. It takes no memory.
+/// Prints the line of a file; where that fails, a prefix of it was printed. It takes no memory.
 pub fn print_summary<K: Sink>(parts: &GraphParts, out: &mut K) -> Option<Fault>
     ensures printed { (text : List ℕ) × K.grew out.old text out.new × Prints (λ answer whole. (answer ≡ None) × (whole ≡ parts_summary parts.now)) result text }
     ensures cause { result ≡ Some Fault.PrintFault → Rose (K.write_faults out.old) (K.write_faults out.new) }
