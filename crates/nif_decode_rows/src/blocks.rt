@@ -6,7 +6,7 @@ use nif_decode::{Bounds, ValueFault};
 use nif_encode::encode_value;
 use nif_schema::Context;
 use nif_stream::Putter;
-use nif_value::Store;
+use nif_value::{Step, Store};
 use std::process::Abort;
 use std::test::Fail;
 
@@ -188,5 +188,51 @@ fn reads_groups_that_lie_deep(rt: HostRuntime) -> Result<(), Fail> {
         assert!(rt; answer.is_err() || bounds.nodes == 128);
         assert_eq!(rt; answer.err(), want);
     }
+    Ok(())
+}
+
+#[test]
+fn gives_each_ragged_row_its_length(rt: HostRuntime) -> Result<(), Fail> {
+    let checked = schema(rt.alloc())?;
+    let mut store = Store::new(rt.alloc());
+    let mut bounds = Bounds {
+        blocks: 0,
+        strings: 0,
+        nodes: 0,
+    };
+    let tree = read(
+        rt.alloc(),
+        &checked,
+        b"SceneRagged",
+        context(0x0400_0002, Order::Little),
+        &mut MemSource::new(b"\x01\x02\x03\xaa\xbb", 1, None),
+        &mut store,
+        &mut bounds,
+    )??;
+    let mut walk = store.walk(tree);
+    for step in [
+        Step::Group { members: 4 },
+        // one width, and three rows of bytes by it: two bytes, none, none
+        Step::Num {
+            width: 1,
+            little: false,
+            bits: 1,
+        },
+        Step::Bytes { len: 1 },
+        Step::Num {
+            width: 1,
+            little: false,
+            bits: 3,
+        },
+        Step::Row { items: 3 },
+        Step::Bytes { len: 2 },
+        Step::Bytes { len: 0 },
+        Step::Bytes { len: 0 },
+        Step::End,
+        Step::End,
+    ] {
+        assert_eq!(rt; walk.next(), Some(step));
+    }
+    assert_eq!(rt; walk.next(), None);
     Ok(())
 }

@@ -92,8 +92,7 @@ fn accepts_changed_scenes(rt: HostRuntime) -> Result<(), Fail> {
     Ok(())
 }
 
-/// Scenes of version 4.0.0.2 whose middle is repeated: groups 64 deep, a run of 9,000 bytes, 1,000 blocks and as many
-/// roots, each of them none.
+/// Scenes of version 4.0.0.2 whose middle is repeated: groups 64 deep, a run of 9,000 bytes.
 const LONG_SCENES: [(&[u8], &[u8], u32, &[u8], &str); 2] = [
     (
         b"NetImmerse File Format, Version 4.0.0.2\n\x02\0\0\x04\x01\0\0\0\x0b\0\0\0SceneVolume",

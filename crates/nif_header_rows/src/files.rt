@@ -12,7 +12,7 @@ pub const SCENE_HEADER: &[u8] =
 
 /// A scene of version 20.2.0.7 without blocks, 70 bytes. The header ends at 66.
 pub const EMPTY_SCENE: &[u8] =
-    b"Gamebryo File Format, Version 20.2.0.7\n\x07\0\x02\x14\x01\0\0\0\0\0\0\0\0\0\0\0\0\0\0\0\0\0\0\0\0\0\0\0\0\0";
+    b"Gamebryo File Format, Version 20.2.0.7\n\x07\0\x02\x14\x01\0\0\0\0\0\0\0\0\0\0\0\0\0\0\0\0\0\0\0\0\0\0\0\0\0\0";
 
 /// The header of the scene with other bytes from a place on.
 pub fn changed(alloc: Global, place: usize, bytes: &[u8]) -> Result<Vec<u8>, Fail> {
