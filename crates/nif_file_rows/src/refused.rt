@@ -125,7 +125,7 @@ fn refuses_long_files(rt: HostRuntime) -> Result<(), Fail> {
 const MANY_ITEMS: &[u8] =
     b"NetImmerse File Format, Version 4.0.0.2\n\x02\0\0\x04\x01\0\0\0\x0b\0\0\0SceneHollow\0\0\0\0\0\x01\0\0\0\0\0\0";
 
-/// Reading goes on up to the most nodes of a file, so this is done in two sizes of pieces alone.
+/// Reading goes on up to the most nodes of a file, so this is done once in each size of pieces.
 #[test]
 fn refuses_too_many_nodes(rt: HostRuntime) -> Result<(), Fail> {
     let want = (
@@ -133,7 +133,13 @@ fn refuses_too_many_nodes(rt: HostRuntime) -> Result<(), Fail> {
         "nif: file F21: too many nodes at 71",
         false,
     );
-    for (line, piece) in [("check scene F", 1), ("copy scene F OUT", 4096)] {
+    for (line, piece) in [
+        ("check scene F", 1),
+        ("copy scene F OUT", 7),
+        ("check scene F", 4095),
+        ("copy scene F OUT", 4096),
+        ("check scene F", 4097),
+    ] {
         run_line(&rt, line, SCENE, MANY_ITEMS, piece, want)?;
     }
     Ok(())
