@@ -68,7 +68,7 @@ pub piece_count : (left : Option (List ℕ)) (count size : ℕ) → IsSome left 
 piece_count None count size some is = absurd (cc)
 piece_count (Some bytes) count size some is = is
 
-none_left : (bytes : List ℕ) (size : ℕ) → 0 < size → 0 ≡ min size (length bytes) → bytes ≡ []
+pub none_left : (bytes : List ℕ) (size : ℕ) → 0 < size → 0 ≡ min size (length bytes) → bytes ≡ []
 none_left [] size h e = refl
 none_left (b ∷ bytes) size h e = absurd (omega arith)
 
@@ -93,14 +93,14 @@ fits_more : (depth next all rest : ℕ) → (0 < depth → depth + all < 2 ^ 32)
 fits_more zero next all rest fits more is few = omega arith
 fits_more (suc depth) next all rest fits more is few = let h = fits (omega arith) in omega (arith, h)
 
--- where the node ends
-passed_next : (depth : ℕ) (rest : List Met) → depth ≢ 0 → where_open depth (behind_one depth rest) rest ≡ behind_one depth rest
-passed_next zero rest h = absurd (h refl)
-passed_next (suc depth) rest h = refl
+-- where some group or row is open, and where none is
+pub opened : {A : Type 0} (depth : ℕ) (some none : A) → depth ≢ 0 → where_open depth some none ≡ some
+opened zero some none h = absurd (h refl)
+opened (suc depth) some none h = refl
 
-passed_last : (depth : ℕ) (rest : List Met) → depth ≡ 0 → where_open depth (behind_one depth rest) rest ≡ rest
-passed_last zero rest e = refl
-passed_last (suc depth) rest e = absurd (cc)
+pub closed : {A : Type 0} (depth : ℕ) (some none : A) → depth ≡ 0 → where_open depth some none ≡ none
+closed zero some none e = refl
+closed (suc depth) some none e = absurd (cc)
 
 -- of a node the first bytes were put, and this is ahead
 pub record Spells {K : Type 0} (grew : K → List ℕ → K → Type 0) (faults : K → ℕ) (old : Putter K) (order : Order) (all : List Met) (depth : ℕ) (ahead : List Met) (now : Putter K) : Type 0 where
@@ -114,14 +114,6 @@ pub record Spells {K : Type 0} (grew : K → List ℕ → K → Type 0) (faults 
 abbrev pub text_behind : Order → ℕ → Met → List Met → List ℕ
 text_behind order depth met rest = where_open (depth_after depth (step_of met)) (one_text order (depth_after depth (step_of met)) rest) []
 
-behind_next : (order : Order) (depth : ℕ) (rest : List Met) → depth ≢ 0 → where_open depth (one_text order depth rest) [] ≡ one_text order depth rest
-behind_next order zero rest h = absurd (h refl)
-behind_next order (suc depth) rest h = refl
-
-behind_last : (order : Order) (depth : ℕ) (rest : List Met) → depth ≡ 0 → where_open depth (one_text order depth rest) [] ≡ []
-behind_last order zero rest e = refl
-behind_last order (suc depth) rest e = absurd (cc)
-
 pub spells_next : {K : Type 0} (grew : K → List ℕ → K → Type 0) (faults : K → ℕ) (old mid new : Putter K) (order : Order) (all : List Met) (depth : ℕ) (met : Met) (rest ahead : List Met)
     → Spells grew faults old order all depth ahead mid → ahead ≡ met ∷ rest → length ahead < 2 ^ 32 → Puts grew faults mid (met_text order met) new → depth_after depth (step_of met) ≢ 0
     → Spells grew faults old order all (depth_after depth (step_of met)) rest new
@@ -129,9 +121,9 @@ spells_next grew faults old mid new order all depth met rest ahead so_far is few
   done = so_far.done ++ met_text order met;
   puts = puts_more grew faults old mid new so_far.done (met_text order met) (so_far.done ++ met_text order met) so_far.puts put refl;
   whole = append_assoc so_far.done (met_text order met) (one_text order (depth_after depth (step_of met)) rest)
-      ∙ ap (λ l. so_far.done ++ (met_text order met ++ l)) (sym (behind_next order (depth_after depth (step_of met)) rest more))
+      ∙ ap (λ l. so_far.done ++ (met_text order met ++ l)) (sym (opened (depth_after depth (step_of met)) (one_text order (depth_after depth (step_of met)) rest) [] more))
       ∙ ap (λ a. so_far.done ++ one_text order depth a) (sym is) ∙ so_far.whole;
-  behind = sym (passed_next (depth_after depth (step_of met)) rest more) ∙ ap (behind_one depth) (sym is) ∙ so_far.behind;
+  behind = sym (opened (depth_after depth (step_of met)) (behind_one (depth_after depth (step_of met)) rest) rest more) ∙ ap (behind_one depth) (sym is) ∙ so_far.behind;
   fits = λ _. fits_more depth (depth_after depth (step_of met)) (length ahead) (length rest) so_far.fits (depth_more depth (step_of met)) (ap length is) few;
 }
 
@@ -140,7 +132,7 @@ pub spells_last : {K : Type 0} (grew : K → List ℕ → K → Type 0) (faults 
     → Puts grew faults old (one_text order 0 all) new
 spells_last grew faults old mid new order all depth met rest ahead so_far is put last =
     puts_more grew faults old mid new so_far.done (met_text order met) (one_text order 0 all) so_far.puts put
-    (ap (λ l. so_far.done ++ l) (sym (append-nil (met_text order met)) ∙ ap (λ l. met_text order met ++ l) (sym (behind_last order (depth_after depth (step_of met)) rest last)))
+    (ap (λ l. so_far.done ++ l) (sym (append-nil (met_text order met)) ∙ ap (λ l. met_text order met ++ l) (sym (closed (depth_after depth (step_of met)) (one_text order (depth_after depth (step_of met)) rest) [] last)))
     ∙ ap (λ a. so_far.done ++ one_text order depth a) (sym is) ∙ so_far.whole)
 
 pub spells_failed : {K : Type 0} (grew : K → List ℕ → K → Type 0) (faults : K → ℕ) (old mid new : Putter K) (order : Order) (all : List Met) (depth : ℕ) (met : Met) (rest ahead : List Met)
@@ -157,7 +149,8 @@ spells_end grew faults old now order all depth ahead so_far none =
 -- what is ahead behind the node
 pub spells_behind : {K : Type 0} (grew : K → List ℕ → K → Type 0) (faults : K → ℕ) (old mid : Putter K) (order : Order) (all : List Met) (depth : ℕ) (met : Met) (rest ahead : List Met)
     → Spells grew faults old order all depth ahead mid → ahead ≡ met ∷ rest → depth_after depth (step_of met) ≡ 0 → rest ≡ behind_one 0 all
-spells_behind grew faults old mid order all depth met rest ahead so_far is last = sym (passed_last (depth_after depth (step_of met)) rest last) ∙ ap (behind_one depth) (sym is) ∙ so_far.behind
+spells_behind grew faults old mid order all depth met rest ahead so_far is last =
+    sym (closed (depth_after depth (step_of met)) (behind_one (depth_after depth (step_of met)) rest) rest last) ∙ ap (behind_one depth) (sym is) ∙ so_far.behind
 
 pub spells_end_behind : {K : Type 0} (grew : K → List ℕ → K → Type 0) (faults : K → ℕ) (old now : Putter K) (order : Order) (all : List Met) (depth : ℕ) (ahead : List Met)
     → Spells grew faults old order all depth ahead now → ahead ≡ [] → ahead ≡ behind_one 0 all
@@ -206,12 +199,13 @@ pub record Passes (all : List Met) (depth : ℕ) (ahead : List Met) : Type 0 whe
 
 pub passes_next : (all : List Met) (depth : ℕ) (met : Met) (rest ahead : List Met) → Passes all depth ahead → ahead ≡ met ∷ rest → length ahead < 2 ^ 32 → depth_after depth (step_of met) ≢ 0 → Passes all (depth_after depth (step_of met)) rest
 passes_next all depth met rest ahead so_far is few more = record {
-  whole = sym (passed_next (depth_after depth (step_of met)) rest more) ∙ ap (behind_one depth) (sym is) ∙ so_far.whole;
+  whole = sym (opened (depth_after depth (step_of met)) (behind_one (depth_after depth (step_of met)) rest) rest more) ∙ ap (behind_one depth) (sym is) ∙ so_far.whole;
   fits = λ _. fits_more depth (depth_after depth (step_of met)) (length ahead) (length rest) so_far.fits (depth_more depth (step_of met)) (ap length is) few;
 }
 
 pub passes_last : (all : List Met) (depth : ℕ) (met : Met) (rest ahead : List Met) → Passes all depth ahead → ahead ≡ met ∷ rest → depth_after depth (step_of met) ≡ 0 → rest ≡ behind_one 0 all
-passes_last all depth met rest ahead so_far is last = sym (passed_last (depth_after depth (step_of met)) rest last) ∙ ap (behind_one depth) (sym is) ∙ so_far.whole
+passes_last all depth met rest ahead so_far is last =
+    sym (closed (depth_after depth (step_of met)) (behind_one (depth_after depth (step_of met)) rest) rest last) ∙ ap (behind_one depth) (sym is) ∙ so_far.whole
 
 pub passes_end : (all : List Met) (depth : ℕ) (ahead : List Met) → Passes all depth ahead → ahead ≡ [] → ahead ≡ behind_one 0 all
 passes_end all depth ahead so_far none = none ∙ ap (behind_one depth) (sym none) ∙ so_far.whole

@@ -14,7 +14,7 @@ after order depth rest = where_open depth (one_text order depth rest) []
 abbrev pub behind : ℕ → List Met → List Met
 behind depth rest = where_open depth (behind_one depth rest) rest
 
-lowered : (depth : ℕ) → suc depth - 1 ≡ depth
+pub lowered : (depth : ℕ) → suc depth - 1 ≡ depth
 lowered depth = omega arith
 
 mutual
@@ -37,7 +37,7 @@ mutual
   members_text order depth (Absent more) rest = members_text order depth more rest
 
 mutual
-  node_behind : (depth : ℕ) (n : Node) (rest : List Met) → behind_one depth (walk n ++ rest) ≡ behind depth rest
+  pub node_behind : (depth : ℕ) (n : Node) (rest : List Met) → behind_one depth (walk n ++ rest) ≡ behind depth rest
   node_behind depth (Num width little bits) rest = refl
   node_behind depth (Line bytes) rest = refl
   node_behind depth (Ref strong wanted target) rest = refl
@@ -48,7 +48,7 @@ mutual
   node_behind depth (Row items) rest =
       ap (λ m. behind_one (suc depth) m) (append_assoc (walk_in items) (Ends ∷ []) rest) ∙ members_behind depth items (Ends ∷ rest) ∙ ap (λ d. behind d rest) (lowered depth)
 
-  members_behind : (depth : ℕ) (members : Members) (rest : List Met) → behind_one (suc depth) (walk_in members ++ rest) ≡ behind_one (suc depth) rest
+  pub members_behind : (depth : ℕ) (members : Members) (rest : List Met) → behind_one (suc depth) (walk_in members ++ rest) ≡ behind_one (suc depth) rest
   members_behind depth End rest = refl
   members_behind depth (Here n more) rest =
       ap (λ m. behind_one (suc depth) m) (append_assoc (walk n) (walk_in more) rest) ∙ node_behind (suc depth) n (walk_in more ++ rest) ∙ members_behind depth more rest

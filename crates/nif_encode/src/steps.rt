@@ -84,7 +84,7 @@ fn put_step<K: Sink>(
 }
 
 /// How many groups and rows are open after a step.
-fn step_depth(depth: u32, step: Step) -> u32
+pub fn step_depth(depth: u32, step: Step) -> u32
     requires { depth < 2 ^ 32 - 1 }
     ensures { result ≡ depth_after depth step }
 {
@@ -141,7 +141,7 @@ pub(crate) fn put_many<K: Sink>(
 }
 
 /// Passes over the node that a walk meets next, with all that it holds, or over an absent member.
-pub(crate) fn pass_one(walk: &mut Walk<'_>)
+pub fn pass_one(walk: &mut Walk<'_>)
     ensures { walk.new.ahead ≡ behind_one 0 walk.old.ahead }
 {
     let mut depth = 0u32;
