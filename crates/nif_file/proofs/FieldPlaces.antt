@@ -11,6 +11,7 @@ use Rattle.nif_schema.specs.Roles.{Roles, header_fields, of_name, is_named, is_o
 use Rattle.nif_file.specs.Files.{header_line}
 use Rattle.nif_file.specs.HeaderParts.{IsPlaceOf}
 use Rattle.nif_file.specs.Heads.{place_in}
+use Rattle.nif_file.specs.PartsText.{up_to}
 use Rattle.nif_file.proofs.HeadNumbers.{left, right, header_is, header_line_is}
 
 none_named : (name : Name) (fields : List Field) → filter (is_named name) fields ≡ [] → list_any (λ f. bytes_eq name f.name) fields ≡ false
@@ -85,6 +86,18 @@ place_later name all place f whole at no_f h =
 
 pub place_none : (name : Name) (all : List kept.Field) (place : ℕ) (whole : Option ℕ) → length all ≤ place → whole ≡ shifted place (place_in name (map field (drop place all))) → whole ≡ None
 place_none name all place whole past h = h ∙ ap (λ xs. shifted place (place_in name (map field xs))) (drop_past all place past)
+
+-- ---- how many fields stand up to the first of a name
+
+pub up_to_place : (name : Name) (fields : List Field) → up_to name fields ≡ option_map_or (λ k. suc k) (place_in name fields) (length fields)
+up_to_place name [] = refl
+up_to_place name (f ∷ fields) = by (bytes_eq name f.name) (place_in name fields) (up_to_place name fields)
+  where
+    by : (b : Bool) (o : Option ℕ) → up_to name fields ≡ option_map_or (λ k. suc k) o (length fields)
+        → (if b then 1 else suc (up_to name fields)) ≡ option_map_or (λ k. suc k) (if b then Some 0 else option_map (λ k. suc k) o) (suc (length fields))
+    by true o h = refl
+    by false None h = ap (λ n. suc n) h
+    by false (Some k) h = ap (λ n. suc n) h
 
 -- ---- the rules
 

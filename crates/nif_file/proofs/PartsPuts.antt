@@ -1,52 +1,12 @@
 -- What was put of the parts of a file so far.
-use Rattle.std.proofs.Common.{◌≡◌, ℕ, zero, suc, ◌+◌, ◌≤◌, true, false, if◌then◌else◌, List, [], ◌∷◌, ◌++◌, length, map, drop, Option, None, Some, IsSome, IfSome, slice_get, unwrap_or, refl, sym, ◌∙◌, ap, subst, arith, append_assoc, append-nil}
+use Rattle.std.proofs.Common.{◌≡◌, ℕ, ◌+◌, ◌≤◌, List, [], ◌++◌, length, drop, Option, None, Some, IsSome, IfSome, slice_get, unwrap_or, refl, sym, ◌∙◌, ap, subst, arith, append_assoc, append-nil}
 use Rattle.std.specs.List.{flat_map}
 use Rattle.std.specs.Option.{IsSomeAnd}
 use Rattle.nif_base.specs.Node.{Node}
-use Rattle.nif_schema.specs.Declaration.{Name, Field, field}
-use Rattle.nif_schema.specs.declared.fields.Field as kept_field
-use Rattle.nif_schema.specs.Roles.{is_named}
 use Rattle.nif_stream.specs.declared.putters.Putter.{Putter}
 use Rattle.nif_stream.specs.Putting.{IsSound, Puts, Fails}
 use Rattle.nif_stream.proofs.PutterLaws.{adds_none, puts_more, fails_more}
-use Rattle.nif_file.specs.PartsText.{up_to}
-
--- ---- a list from a place on
-
-drop-at : {A : Type 0} (xs : List A) (n : ℕ) (x : A) → slice_get xs n ≡ Some x → drop n xs ≡ x ∷ drop (n + 1) xs
-drop-at [] n x e = absurd (cc)
-drop-at (y ∷ ys) zero x e = cc
-drop-at (y ∷ ys) (suc n) x e = let z : suc n + 1 ≡ suc (n + 1) = omega arith in rw z (drop-at ys n x e)
-
-drop_past : {A : Type 0} (xs : List A) (n : ℕ) → length xs ≤ n → drop n xs ≡ []
-drop_past [] zero le = refl
-drop_past [] (suc n) le = refl
-drop_past (x ∷ xs) zero le = absurd (omega arith)
-drop_past (x ∷ xs) (suc n) le = drop_past xs n (omega arith)
-
-abbrev pub left : List kept_field.Field → ℕ → List Field
-left fields place = map field (drop place fields)
-
--- ---- the first field of a name
-
-pub up_first : (name : Name) (fields : List kept_field.Field) (place all : ℕ) (f : kept_field.Field) → all ≡ place + up_to name (left fields place) → slice_get fields place ≡ Some f → is_named name (field f) ≡ true
-    → place + 1 ≡ all
-up_first name fields place all f so_far at is =
-    let here : up_to name (left fields place) ≡ 1 =
-    ap (λ l. up_to name (map field l)) (drop-at fields place f at) ∙ ap (λ b. if b then 1 else suc (up_to name (left fields (place + 1)))) is in
-    omega (arith, so_far, here)
-
-pub up_next : (name : Name) (fields : List kept_field.Field) (place all : ℕ) (f : kept_field.Field) → all ≡ place + up_to name (left fields place) → slice_get fields place ≡ Some f → is_named name (field f) ≡ false
-    → all ≡ place + 1 + up_to name (left fields (place + 1))
-up_next name fields place all f so_far at is =
-    let here : up_to name (left fields place) ≡ suc (up_to name (left fields (place + 1))) =
-    ap (λ l. up_to name (map field l)) (drop-at fields place f at) ∙ ap (λ b. if b then 1 else suc (up_to name (left fields (place + 1)))) is in
-    omega (arith, so_far, here)
-
-pub up_past : (name : Name) (fields : List kept_field.Field) (place all : ℕ) → all ≡ place + up_to name (left fields place) → length fields ≤ place → place ≡ all
-up_past name fields place all so_far past =
-    let here : up_to name (left fields place) ≡ 0 = ap (λ l. up_to name (map field l)) (drop_past fields place past) in
-    omega (arith, so_far, here)
+use Rattle.nif_file.proofs.FieldPlaces.{drop_at, drop_past}
 
 -- ---- a tree of a store
 
@@ -77,14 +37,14 @@ pub first_next : {A K : Type 0} (grew : K → List ℕ → K → Type 0) (faults
 first_next grew faults old mid new spelled all i x so_far at put = record {
   done = so_far.done ++ spelled x;
   puts = puts_more grew faults old mid new so_far.done (spelled x) (so_far.done ++ spelled x) so_far.puts put refl;
-  whole = append_assoc so_far.done (spelled x) (flat_map spelled (drop (i + 1) all)) ∙ ap (λ l. so_far.done ++ flat_map spelled l) (sym (drop-at all i x at)) ∙ so_far.whole;
+  whole = append_assoc so_far.done (spelled x) (flat_map spelled (drop (i + 1) all)) ∙ ap (λ l. so_far.done ++ flat_map spelled l) (sym (drop_at all i x at)) ∙ so_far.whole;
 }
 
 pub first_failed : {A K : Type 0} (grew : K → List ℕ → K → Type 0) (faults : K → ℕ) (old mid new : Putter K) (spelled : A → List ℕ) (all : List A) (i : ℕ) (x : A)
     → PutsFirst grew faults old spelled all i mid → slice_get all i ≡ Some x → Fails grew faults mid (spelled x) new → Fails grew faults old (flat_map spelled all) new
 first_failed grew faults old mid new spelled all i x so_far at failed =
     fails_more grew faults old mid new so_far.done (spelled x) (flat_map spelled (drop (i + 1) all)) (flat_map spelled all) so_far.puts failed
-    (append_assoc so_far.done (spelled x) (flat_map spelled (drop (i + 1) all)) ∙ ap (λ l. so_far.done ++ flat_map spelled l) (sym (drop-at all i x at)) ∙ so_far.whole)
+    (append_assoc so_far.done (spelled x) (flat_map spelled (drop (i + 1) all)) ∙ ap (λ l. so_far.done ++ flat_map spelled l) (sym (drop_at all i x at)) ∙ so_far.whole)
 
 pub first_all : {A K : Type 0} (grew : K → List ℕ → K → Type 0) (faults : K → ℕ) (old now : Putter K) (spelled : A → List ℕ) (all : List A) (i : ℕ)
     → PutsFirst grew faults old spelled all i now → length all ≤ i → Puts grew faults old (flat_map spelled all) now

@@ -19,7 +19,7 @@ use Rattle.nif_encode.specs.Texts.{HasMembers}
 use Rattle.nif_file.specs.Head.{order_in, version_in, index_word}
 use Rattle.nif_file.specs.Files.{IsFile, IsHeader, IsBlock, AreBlocks, header_text, block_text, blocks_text, text_of, members_of, head_of, head_in, name_of, name_where, has_zero_word, zero_where}
 use Rattle.nif_file.specs.PartsSay.{SaysFile, SaysBlock, SaysBlocks, StandsUnder}
-use Rattle.nif_file.specs.PartsText.{CanPut, IsPart, node_at, header_part, block_part, parts_text}
+use Rattle.nif_file.specs.PartsText.{CanPut, CanPutBlock, node_at, header_part, block_part, parts_text}
 use Rattle.nif_file.proofs.HeadNumbers.{header_line_is}
 use Rattle.nif_file.proofs.HeaderTexts.{header_parts, header_matched, matched_count}
 use Rattle.nif_file.proofs.ValueSteps.{block_open}
@@ -107,17 +107,17 @@ header_there S roles found header e is =
     subst (λ (o : Option Node). IsSomeAnd o (HasMembers (length (header_fields S)))) (sym e)
     (subst (λ (n : Node). HasMembers (length (header_fields S)) n) (sym is.group) group)
 
-block_there : (S : Schema) (store : Trees) (E : Env) (k : ℕ) (part : BlockPart) (block : Block) → SaysBlock store part block → IsBlock S E k block → IsPart S store part
+block_there : (S : Schema) (store : Trees) (E : Env) (k : ℕ) (part : BlockPart) (block : Block) → SaysBlock store part block → IsBlock S E k block → CanPutBlock S store part
 block_there S store E k part block says is =
     let within = (block_open S block.kind (name_of S block.kind) is.type.named).0 in
     (subst (λ (n : ℕ). n < length S) (sym says.kind) within, some_there (region.find store.trees part.tree.run.key) block.node says.value)
 
 blocks_there : (S : Schema) (store : Trees) (E : Env) (k : ℕ) (parts : List BlockPart) (blocks : List Block) → SaysBlocks store parts blocks → AreBlocks S E k blocks
-    → (i : ℕ) (part : BlockPart) → slice_get parts i ≡ Some part → IsPart S store part
+    → (i : ℕ) (part : BlockPart) → slice_get parts i ≡ Some part → CanPutBlock S store part
 blocks_there S store E k [] blocks says are i part at = absurd (cc)
 blocks_there S store E k (first ∷ parts) [] says are i part at = absurd says
 blocks_there S store E k (first ∷ parts) (block ∷ blocks) says are zero part at =
-    let same : first ≡ part = cc in subst (λ (p : BlockPart). IsPart S store p) same (block_there S store E k first block says.0 are.0)
+    let same : first ≡ part = cc in subst (λ (p : BlockPart). CanPutBlock S store p) same (block_there S store E k first block says.0 are.0)
 blocks_there S store E k (first ∷ parts) (block ∷ blocks) says are (suc i) part at = blocks_there S store E (k + 1) parts blocks says.1 are.1 i part at
 
 pub all_there : (S : Schema) → Roles S → (parts : GraphParts) → ((F : File) × SaysFile S parts F × IsFile S F (text_of S F)) → CanPut S parts

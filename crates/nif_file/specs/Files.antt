@@ -1,5 +1,5 @@
 -- Which files there are by a schema, and their bytes: a header, blocks, a footer, and nothing more.
-use Rattle.std.specs.Prelude.{ℕ, ◌≡◌, ◌+◌, ◌≤◌, Bool, true, false, ◌&&◌, nat_le, codes, List, [], ◌∷◌, ◌++◌, length, None, Some, IfSome, slice_get, if◌then◌else◌}
+use Rattle.std.specs.Prelude.{ℕ, ◌≡◌, ◌+◌, ◌-◌, ◌≤◌, Bool, true, false, ◌&&◌, nat_le, codes, List, [], ◌∷◌, ◌++◌, length, None, Some, IfSome, slice_get, if◌then◌else◌}
 use Rattle.std.specs.declared.option.Option.{Option}
 use Rattle.std.specs.Option.{option_map_or}
 use Rattle.nif_base.specs.declared.orders.Order.{Order}
@@ -25,6 +25,10 @@ use Rattle.nif_file.specs.Checks.{header_check, types_fault}
 abbrev pub most_depth : ℕ
 most_depth = 64
 
+-- The header is a group itself, so groups in it lie one less deep.
+abbrev pub header_depth : ℕ
+header_depth = most_depth - 1
+
 -- ---- the header
 
 -- the fields of the header
@@ -39,10 +43,9 @@ members_of _ = End
 abbrev pub head_of : Schema → Members → Env
 head_of S members = passed (header_line S) members []
 
--- Each member is read in the context that those before it make, and none is refused. The header is a group itself, so
--- groups in it lie one less deep.
+-- Each member is read in the context that those before it make, and none is refused.
 abbrev pub IsHeaderLine : Schema → Members → Type 0
-IsHeaderLine S members = LineShape S (header_context S) 63 None 0 (header_check S) (header_line S) [] members
+IsHeaderLine S members = LineShape S (header_context S) header_depth None 0 (header_check S) (header_line S) [] members
 
 -- the bytes of the members, each in the order that held for it
 abbrev pub header_text : Schema → Members → List ℕ

@@ -12,6 +12,7 @@ use Rattle.nif_layout.specs.Fault.{Point, Reads, one_more, most_nodes}
 use Rattle.nif_layout.specs.Shape.{FormShape}
 use Rattle.nif_file.specs.Head.{header_context}
 use Rattle.nif_file.specs.Checks.{header_check}
+use Rattle.nif_file.specs.Files.{header_depth}
 
 -- these members before others
 abbrev pub with_members : List (Option Node) → Members → Members
@@ -23,7 +24,7 @@ with_members (None ∷ gots) rest = Absent (with_members gots rest)
 abbrev pub MemberReads : Schema → Env → Field → Option Node → Point → Point → Type 0
 MemberReads S E f (Some node) at next =
     (present S (header_context S E) 0 E f ≡ true)
-    × FormShape S (header_context S E) 63 (form_of S (header_context S E) None 0 E f) node
+    × FormShape S (header_context S E) header_depth (form_of S (header_context S E) None 0 E f) node
     × Reads (header_context S E).order node at next
 MemberReads S E f None at next = (present S (header_context S E) 0 E f ≡ false) × (at.nodes < most_nodes) × (next ≡ one_more at)
 

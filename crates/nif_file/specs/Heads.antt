@@ -15,7 +15,7 @@ use Rattle.nif_layout.specs.Shape.{FormShape}
 use Rattle.nif_layout.specs.PathValue.{number_in}
 use Rattle.nif_file.specs.declared.heads.Head.{Head}
 use Rattle.nif_file.specs.Head.{header_context, member, number_of, inner_number, version_in, order_in}
-use Rattle.nif_file.specs.Files.{header_line, head_of}
+use Rattle.nif_file.specs.Files.{header_depth, header_line, head_of}
 use Rattle.nif_file.specs.FileFails.{start_of}
 use Rattle.nif_file.specs.HeaderParts.{with_members, PartReads, IsPlaceOf}
 
@@ -59,7 +59,7 @@ context_of context blocks strings = record {
 abbrev pub IsNext : Schema → Env → Field → Option Node → Type 0
 IsNext S E f None = present S (header_context S E) 0 E f ≡ false
 IsNext S E f (Some node) =
-    (present S (header_context S E) 0 E f ≡ true) × FormShape S (header_context S E) 63 (form_of S (header_context S E) None 0 E f) node
+    (present S (header_context S E) 0 E f ≡ true) × FormShape S (header_context S E) header_depth (form_of S (header_context S E) None 0 E f) node
 
 -- The members of the first fields are read, and none is refused; these bytes spell them, whatever stands behind.
 pub record IsPart (S : Schema) (count : ℕ) (held : Members) (bytes : List ℕ) (counted : ℕ) : Type 0 where

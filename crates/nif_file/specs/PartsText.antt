@@ -43,12 +43,12 @@ parts_text S parts =
     ++ text parts.context.order (node_at parts.store parts.footer))
 
 -- the type of the block is declared, and its tree is there
-abbrev pub IsPart : Schema → Trees → BlockPart → Type 0
-IsPart S store part = (part.kind < length S) × IsLive store part.tree.run.key
+abbrev pub CanPutBlock : Schema → Trees → BlockPart → Type 0
+CanPutBlock S store part = (part.kind < length S) × IsLive store part.tree.run.key
 
 -- all parts are there
 pub record CanPut (S : Schema) (parts : GraphParts) : Type 0 where
   pub declared : IsSome (find S (codes "Header"))
   pub header : IsSomeAnd (region.find parts.store.trees parts.header.run.key) (HasMembers (length (header_fields S)))
-  pub blocks : (k : ℕ) (part : BlockPart) → slice_get parts.blocks k ≡ Some part → IsPart S parts.store part
+  pub blocks : (k : ℕ) (part : BlockPart) → slice_get parts.blocks k ≡ Some part → CanPutBlock S parts.store part
   pub footer : IsLive parts.store parts.footer.run.key

@@ -1,5 +1,5 @@
 //! Whole files, written from their parts.
-ghost use Rattle.std.specs.Prelude.{◌≡◌, ◌≤◌, ◌<◌, ◌++◌, List, ℕ, length, map, codes, OnOk, OnErr, IsSome, IsSomeAnd};
+ghost use Rattle.std.specs.Prelude.{◌≡◌, ◌≤◌, ◌<◌, ◌++◌, length, map, codes, OnOk, OnErr, IsSome, IsSomeAnd};
 ghost use Rattle.std.specs.List.{flat_map};
 ghost use Rattle.nif_base.specs.Node.{text};
 ghost use Rattle.nif_base.specs.File.{File};
@@ -7,44 +7,32 @@ ghost use Rattle.nif_base.specs.Outside.{HasCause};
 ghost use Rattle.nif_region.specs.Contents as region;
 ghost use Rattle.nif_schema.specs.Declaration.{field};
 ghost use Rattle.nif_schema.specs.Schema.{find};
-ghost use Rattle.nif_schema.specs.Roles.{Roles, header_fields, is_named};
+ghost use Rattle.nif_schema.specs.Roles.{Roles, header_fields};
 ghost use Rattle.nif_value.specs.Trees.{IsLive};
 ghost use Rattle.nif_stream.specs.Putting.{HasTaken, IsSound, Puts, Fails};
 ghost use Rattle.nif_encode.specs.Texts.{members_text, HasMembers};
 ghost use Rattle.nif_file.specs.Files.{IsFile, text_of, name_of, name_where, sized_string, has_zero_word, zero_where};
 ghost use Rattle.nif_file.specs.PartsSay.{SaysFile};
-ghost use Rattle.nif_file.specs.PartsText.{CanPut, IsPart, block_part, header_part, node_at, parts_text, up_to};
+ghost use Rattle.nif_file.specs.PartsText.{CanPut, CanPutBlock, block_part, header_part, node_at, parts_text, up_to};
 
+use crate::places::place_of;
+use crate::versions::has_zero_word;
 use nif_base::{Order, Sink, Version, WriteFault};
 use nif_encode::{encode_members, encode_value, put_number};
 use nif_graph::{BlockPart, GraphParts};
-use nif_schema::{Context, Field, Fields, Schema};
+use nif_schema::{Context, Fields, Schema};
 use nif_stream::Putter;
 use nif_value::{Store, TreeId};
-
-/// The first version in which a zero word stands before the value of each block.
-const FIRST_ZERO: u32 = 0x0500_0001;
-
-/// The last version in which one does.
-const LAST_ZERO: u32 = 0x0A01_006A;
-
-/// Whether a field has this name.
-fn is_named(of: &Field, name: &[u8]) -> bool
-    ensures { result ≡ is_named name.now (field of.now) }
-{
-    name == of.name.bytes()
-}
 
 /// How many fields stand up to and with the first of a name, all where there is none.
 fn up_to(fields: &Fields, name: &[u8]) -> u32
     ensures { result ≡ up_to name.now (map field fields.now) }
 {
-    for place in 0..fields.len() {
-        if is_named(fields.get(place), name) {
-            return place + 1;
-        }
+    let all = fields.len();
+    match place_of(fields, name) {
+        Some(place) => place + 1,
+        None => all,
     }
-    fields.len()
 }
 
 /// How many members of the header stand before the order of the file holds, and how many there are.
@@ -142,13 +130,6 @@ fn put_name<K: Sink>(
     }
 }
 
-/// Whether a zero word stands before the value of each block.
-fn has_zero_word(version: Version) -> bool
-    ensures { result ≡ has_zero_word version.number }
-{
-    FIRST_ZERO <= version.number && version.number <= LAST_ZERO
-}
-
 /// Puts the zero word, where the version has it.
 fn put_zero_word<K: Sink>(version: Version, out: &mut Putter<'_, K>) -> Result<(), WriteFault>
     requires { IsSound out.old }
@@ -170,7 +151,7 @@ fn put_block<K: Sink>(
     part: BlockPart,
     out: &mut Putter<'_, K>,
 ) -> Result<(), WriteFault>
-    requires part { IsPart schema.now store.now part }
+    requires part { CanPutBlock schema.now store.now part }
     requires sound { IsSound out.old }
     ensures ok { OnOk result (Puts K.grew K.write_faults out.old (block_part schema.now store.now context part) out.new) }
     ensures err { OnErr result (Fails K.grew K.write_faults out.old (block_part schema.now store.now context part) out.new) }

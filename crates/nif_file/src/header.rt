@@ -1,6 +1,6 @@
 //! The header of a file: the members of the struct `Header`, each read in the context that those before it make, and
 //! checked at once.
-ghost use Rattle.std.specs.Prelude.{◌≡◌, ◌+◌, ◌^◌, ◌<◌, ◌∷◌, ℕ, [], length, true, codes, bytes_eq, Option, OnOk, OnErr, IfOk, IfErr, Some, None, slice_get};
+ghost use Rattle.std.specs.Prelude.{◌≡◌, ◌+◌, ◌^◌, ◌<◌, ◌∷◌, ℕ, List, [], length, true, codes, bytes_eq, Option, OnOk, OnErr, IfOk, IfErr, Some, None, slice_get};
 ghost use Rattle.nif_base.specs.Node as node;
 ghost use Rattle.nif_base.specs.Node.{Node, Members, End};
 ghost use Rattle.nif_cells.specs.Building.{InGroup};
@@ -11,6 +11,7 @@ ghost use Rattle.nif_schema.specs.Roles.{Roles};
 ghost use Rattle.nif_layout.specs.Earlier.{Env};
 ghost use Rattle.nif_stream.specs.declared.takers.Taker as takers;
 ghost use Rattle.nif_stream.specs.Taking.{IsSound, place_of};
+ghost use Rattle.nif_scope.specs.declared.entries.Entry.{Entry};
 ghost use Rattle.nif_decode.specs.Scopes.{AreKept, member_at};
 ghost use Rattle.nif_file.specs.Head.{inner_number};
 ghost use Rattle.nif_file.specs.Files.{header_line};
@@ -240,6 +241,41 @@ fn read_members<S: Source>(
     Ok(())
 }
 
+/// Reads the line and the members behind it, into the group that was begun.
+fn read_all<S: Source>(
+    alloc: Global,
+    schema: &Schema,
+    header: u32,
+    taker: &mut Taker<'_, S>,
+    store: &mut Store,
+    bounds: &mut Bounds,
+) -> Result<Head, FileFault>
+    requires is { IsSchema schema.now }
+    requires roles { Roles schema.now }
+    requires header { find schema.now (codes "Header") ≡ Some header }
+    requires sound { IsSound taker.old }
+    requires first { place_of taker.old ≡ 0 }
+    requires none { (bounds.old.blocks ≡ 0) × (bounds.old.strings ≡ 0) }
+    requires nodes { bounds.old.nodes ≡ 1 }
+    requires building { store.old.building ≡ Some (record { top = None; levels = InGroup node.End ∷ [] }) }
+    ensures trees { store.new.trees ≡ store.old.trees }
+    ensures ok { IfOk result (λ head. (entries : List Entry) × StandsAt S.left S.still S.read_faults schema.now header (length (header_line schema.now)) taker.old taker.new entries store.new.building bounds.new.nodes head) }
+    ensures err { IfErr result (λ fault. HasNoHeader S.left S.still S.read_faults schema.now taker.old taker.new fault) }
+    ensures building { OnErr result (store.new.building ≡ None) }
+{
+    let mut scope = Scope::new(alloc);
+    let mut head = match read_line(&mut scope, taker, store, bounds) {
+        Ok(head) => head,
+        Err(fault) => return Err(fault),
+    };
+    match read_members(
+        alloc, schema, header, &mut head, &mut scope, taker, store, bounds,
+    ) {
+        Ok(()) => Ok(head),
+        Err(fault) => Err(fault),
+    }
+}
+
 /// Reads the header of a file, from its first byte, into a new tree. Its first fault is answered exactly where it has
 /// one (`docs/FILES.md` says each), `ReadFault` only where a read failed in this call, and `NoMemory` where memory ran
 /// out. After a fault the tree that was begun is dropped, no other has changed, and the taker may have moved.
@@ -264,29 +300,15 @@ pub fn read_header<S: Source>(
         Ok(()) => {}
         Err(NoMemory) => return Err(FileFault::NoMemory),
     }
-    let mut scope = Scope::new(alloc);
     let mut bounds = Bounds {
         blocks: 0,
         strings: 0,
         nodes: 1,
     };
-    let mut head = match read_line(&mut scope, taker, store, &mut bounds) {
+    let head = match read_all(alloc, schema, header, taker, store, &mut bounds) {
         Ok(head) => head,
         Err(fault) => return Err(fault),
     };
-    match read_members(
-        alloc,
-        schema,
-        header,
-        &mut head,
-        &mut scope,
-        taker,
-        store,
-        &mut bounds,
-    ) {
-        Ok(()) => {}
-        Err(fault) => return Err(fault),
-    }
     if head.lacks_types() {
         store.abandon();
         return Err(FileFault::NoTypeList);

@@ -12,7 +12,9 @@ pub mod header;
 mod heads;
 pub mod laws;
 mod places;
+pub mod versions;
 
 pub use encode::encode_file;
 pub use faults::FileFault;
 pub use header::{Header, of_value, read_header};
+pub use versions::has_zero_word;

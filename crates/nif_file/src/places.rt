@@ -5,6 +5,7 @@ ghost use Rattle.nif_schema.specs.Schema.{find};
 ghost use Rattle.nif_schema.specs.Roles.{Roles};
 ghost use Rattle.nif_file.specs.Heads.{ArePlaces, place_in};
 
+use crate::heads::is_name;
 use nif_graph::RolePlaces;
 use nif_schema::{Fields, Schema};
 
@@ -13,7 +14,7 @@ pub(crate) fn place_of(fields: &Fields, name: &[u8]) -> Option<u32>
     ensures { result ≡ place_in name.now (map field fields.now) }
 {
     for place in 0..fields.len() {
-        if name == fields.get(place).name.bytes() {
+        if is_name(name, fields.get(place).name.bytes()) {
             return Some(place);
         }
     }
