@@ -1,36 +1,12 @@
 -- A walk through the members of a group, one after another.
-use Rattle.std.proofs.Common.{ℕ, zero, suc, ◌-◌, ◌<◌, ◌≤◌, ◌≡◌, true, false, List, [], ◌∷◌, ◌++◌, Option, None, Some, refl, ◌∙◌, ap, arith, append_assoc}
+use Rattle.std.proofs.Common.{ℕ, zero, suc, ◌<◌, ◌≤◌, ◌≡◌, true, false, List, [], ◌∷◌, ◌++◌, Option, None, Some, refl, ◌∙◌, ap, arith, append_assoc}
 use Rattle.nif_base.specs.Node.{Node, Members, Num, Line, Ref, Text, Bytes, Group, Row, End, Here, Absent}
 use Rattle.nif_cells.specs.Walks.{Met, Leaf, Opens, LeftOut, Ends, count, walk, walk_in}
 use Rattle.nif_file.specs.HeaderParts.{member_at}
-use Rattle.nif_lists.specs.Passing.{where_open, behind_one, behind_first, Keeps, kept_one}
+use Rattle.nif_encode.specs.Texts.{where_open, behind_one}
+use Rattle.nif_encode.proofs.TextLaws.{lowered, node_behind}
+use Rattle.nif_lists.specs.Passing.{behind_first, Keeps, kept_one}
 use Rattle.nif_lists.proofs.PassLaws.{step_kept}
-
-lowered : (depth : ℕ) → suc depth - 1 ≡ depth
-lowered depth = omega arith
-
--- ---- what is behind a node
-
-abbrev behind : ℕ → List Met → List Met
-behind depth rest = where_open depth (behind_one depth rest) rest
-
-mutual
-  node_behind : (depth : ℕ) (n : Node) (rest : List Met) → behind_one depth (walk n ++ rest) ≡ behind depth rest
-  node_behind depth (Num width little bits) rest = refl
-  node_behind depth (Line bytes) rest = refl
-  node_behind depth (Ref strong wanted target) rest = refl
-  node_behind depth (Text index) rest = refl
-  node_behind depth (Bytes bytes) rest = refl
-  node_behind depth (Group members) rest =
-      ap (λ m. behind_one (suc depth) m) (append_assoc (walk_in members) (Ends ∷ []) rest) ∙ members_behind depth members (Ends ∷ rest) ∙ ap (λ d. behind d rest) (lowered depth)
-  node_behind depth (Row items) rest =
-      ap (λ m. behind_one (suc depth) m) (append_assoc (walk_in items) (Ends ∷ []) rest) ∙ members_behind depth items (Ends ∷ rest) ∙ ap (λ d. behind d rest) (lowered depth)
-
-  members_behind : (depth : ℕ) (members : Members) (rest : List Met) → behind_one (suc depth) (walk_in members ++ rest) ≡ behind_one (suc depth) rest
-  members_behind depth End rest = refl
-  members_behind depth (Here n more) rest =
-      ap (λ m. behind_one (suc depth) m) (append_assoc (walk n) (walk_in more) rest) ∙ node_behind (suc depth) n (walk_in more ++ rest) ∙ members_behind depth more rest
-  members_behind depth (Absent more) rest = members_behind depth more rest
 
 -- ---- what is kept of a node
 

@@ -1,38 +1,10 @@
 -- What a walk leaves behind it, node after node, and what is kept of each on the way.
-use Rattle.std.specs.Prelude.{ℕ, zero, suc, ◌-◌, false, List, [], ◌∷◌, Option, None, Some, IsSome}
+use Rattle.std.specs.Prelude.{ℕ, zero, suc, false, List, [], ◌∷◌}
 use Rattle.nif_base.specs.Node.{Bytes}
 use Rattle.nif_cells.specs.Walks.{Met, Leaf, Opens}
 use Rattle.nif_cells.specs.declared.steps.Step.{Step}
-use Rattle.nif_cells.specs.declared.steps.Step.TheVariants as step
 use Rattle.nif_value.specs.Walking.{step_of, bytes_met, walked}
-
--- the bytes to be copied, or none
-abbrev pub given : Option (List ℕ) → List ℕ
-given None = []
-given (Some bytes) = bytes
-
--- there are bytes to be copied of a line or a run of bytes
-abbrev pub HasGiven : Step → Option (List ℕ) → Type 0
-HasGiven (step.Line len) bytes = IsSome bytes
-HasGiven (step.Bytes len) bytes = IsSome bytes
-HasGiven _ bytes = Unit {0}
-
--- how many groups and rows are open after a step
-abbrev pub depth_after : ℕ → Step → ℕ
-depth_after depth (step.Group members) = suc depth
-depth_after depth (step.Row items) = suc depth
-depth_after depth step.End = depth - 1
-depth_after depth _ = depth
-
--- one thing where some group or row is open, another where none is
-abbrev pub where_open : {A : Type 0} → ℕ → A → A → A
-where_open zero some none = none
-where_open (suc depth) some none = some
-
--- Of what is ahead where so many groups and rows are open: what is behind the step with which none is open.
-abbrev pub behind_one : ℕ → List Met → List Met
-behind_one depth [] = []
-behind_one depth (met ∷ rest) = where_open (depth_after depth (step_of met)) (behind_one (depth_after depth (step_of met)) rest) rest
+use Rattle.nif_encode.specs.Texts.{given, depth_after, where_open, behind_one}
 
 -- behind the first nodes and absent members, so many of them
 abbrev pub behind_first : ℕ → List Met → List Met

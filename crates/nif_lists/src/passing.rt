@@ -1,40 +1,17 @@
 //! A walk over one node after another.
-ghost use Rattle.std.specs.Prelude.{◌≡◌, ℕ, ◌-◌, ◌^◌, ◌<◌, IsSome, IfOk, OnOk};
-ghost use Rattle.nif_lists.specs.Passing.{given, HasGiven, depth_after, behind_one, run_ahead, kept_one};
+ghost use Rattle.std.specs.Prelude.{◌≡◌, ℕ, IsSome, IfOk, OnOk};
+ghost use Rattle.nif_encode.specs.Texts.{given, HasGiven, behind_one};
+ghost use Rattle.nif_lists.specs.Passing.{run_ahead, kept_one};
 ghost use Rattle.nif_lists.specs.Lists.{kept};
 ghost use Rattle.nif_lists.specs.declared.roles.Role.TheVariants as role;
 
 use crate::lists::Lists;
 use crate::roles::Role;
 use nif_base::{NoMemory, Word};
+use nif_encode::step_depth;
 use nif_schema::Schema;
 use nif_value::{Step, Walk};
 use std::alloc::Global;
-
-/// How many groups and rows are open after a step.
-fn step_depth(depth: u32, step: Step) -> u32
-    requires { depth < 2 ^ 32 - 1 }
-    ensures { result ≡ depth_after depth step }
-{
-    match step {
-        Step::Group { .. } | Step::Row { .. } => depth + 1,
-        Step::End => depth.saturating_sub(1),
-        _ => depth,
-    }
-}
-
-/// Passes over the node that a walk meets next, with all that it holds, or over an absent member.
-pub(crate) fn pass_one(walk: &mut Walk<'_>)
-    ensures { walk.new.ahead ≡ behind_one 0 walk.old.ahead }
-{
-    let mut depth = 0u32;
-    while let Some(step) = walk.next() {
-        depth = step_depth(depth, step);
-        if depth == 0 {
-            return;
-        }
-    }
-}
 
 /// Reads the bytes of the line or run of bytes that a walk met last, in place of those that were read before.
 fn read_bytes(walk: &mut Walk<'_>, bytes: &mut Vec<u8>) -> Result<(), NoMemory>

@@ -8,9 +8,10 @@ ghost use Rattle.nif_lists.specs.Passing.{behind_step, members_ahead};
 ghost use Rattle.nif_lists.specs.Lists.{ArePlaces, AreListsOf, IsNameOf, kept_of};
 
 use crate::lists::Lists;
-use crate::passing::{keep_one, pass_one, read_run};
+use crate::passing::{keep_one, read_run};
 use crate::roles::role_at;
 use nif_base::{NoMemory, Word};
+use nif_encode::pass_one;
 use nif_graph::RolePlaces;
 use nif_schema::Schema;
 use nif_value::{Step, Store, TreeId, Walk};

@@ -1,5 +1,5 @@
 use Rattle.std.proofs.Common.{◌≡◌, length}
-use Rattle.nif_lists.specs.Passing.{given}
+use Rattle.nif_encode.specs.Texts.{given}
 use Rattle.nif_lists.proofs.PassLaws.{Copies}
 use Rattle.nif_lists.proofs.passing.read_bytes.Given as goal
 
