@@ -93,7 +93,7 @@ fn put_counted_twice<K: Sink>(
 #[tactic(auto, using(nif_stream::proofs::PutterLaws::puts))]
 fn put_between<K: Sink>(
     label: &[u8],
-    n: u64,
+    n: u32,
     rest: &[u8],
     out: &mut Putter<'_, K>,
 ) -> Result<(), WriteFault>
@@ -101,8 +101,22 @@ fn put_between<K: Sink>(
     ensures ok { OnOk result (Puts K.grew K.write_faults out.old (counted label.now n ++ rest.now) out.new) }
     ensures err { OnErr result (Fails K.grew K.write_faults out.old (counted label.now n ++ rest.now) out.new) }
 {
-    put_counted(label, n, out)?;
+    put_counted(label, n as u64, out)?;
     out.put(rest)
+}
+
+/// Puts a value behind a label, and its place.
+fn put_found<K: Sink>(
+    label: &[u8],
+    value: u32,
+    at: u64,
+    out: &mut Putter<'_, K>,
+) -> Result<(), WriteFault>
+    requires { IsSound out.old }
+    ensures ok { OnOk result (Puts K.grew K.write_faults out.old (counted_twice label.now value (codes " at ") at) out.new) }
+    ensures err { OnErr result (Fails K.grew K.write_faults out.old (counted_twice label.now value (codes " at ") at) out.new) }
+{
+    put_counted_twice(label, value as u64, b" at ", at, out)
 }
 
 /// Puts that a version is out of range.
@@ -127,6 +141,30 @@ fn put_versions<K: Sink>(line: u32, field: u32, out: &mut Putter<'_, K>) -> Resu
     put_version(b", field version ", field, out)
 }
 
+/// Puts that the byte order is unknown.
+fn put_endian<K: Sink>(value: u8, out: &mut Putter<'_, K>) -> Result<(), WriteFault>
+    requires { IsSound out.old }
+    ensures ok { OnOk result (Puts K.grew K.write_faults out.old (file_fault_text (file.EndianValue value)) out.new) }
+    ensures err { OnErr result (Fails K.grew K.write_faults out.old (file_fault_text (file.EndianValue value)) out.new) }
+{
+    put_counted(b"file F8: endian value ", value as u64, out)
+}
+
+/// Puts that the index word of a block names no type.
+fn put_index<K: Sink>(block: u32, index: u16, out: &mut Putter<'_, K>) -> Result<(), WriteFault>
+    requires { IsSound out.old }
+    ensures ok { OnOk result (Puts K.grew K.write_faults out.old (file_fault_text (file.TypeIndex block index)) out.new) }
+    ensures err { OnErr result (Fails K.grew K.write_faults out.old (file_fault_text (file.TypeIndex block index)) out.new) }
+{
+    put_counted_twice(
+        b"file F12: block ",
+        block as u64,
+        b" type index ",
+        index as u64,
+        out,
+    )
+}
+
 /// Puts that the type of a block is unknown.
 #[tactic(auto, using(nif_stream::proofs::PutterLaws::puts))]
 fn put_unknown<K: Sink>(block: u32, name: &[u8], out: &mut Putter<'_, K>) -> Result<(), WriteFault>
@@ -134,11 +172,58 @@ fn put_unknown<K: Sink>(block: u32, name: &[u8], out: &mut Putter<'_, K>) -> Res
     ensures ok { OnOk result (Puts K.grew K.write_faults out.old (file_fault_text (file.UnknownType block name.now)) out.new) }
     ensures err { OnErr result (Fails K.grew K.write_faults out.old (file_fault_text (file.UnknownType block name.now)) out.new) }
 {
-    match put_between(b"file F13: block ", block as u64, b" unknown type ", out) {
+    match put_between(b"file F13: block ", block, b" unknown type ", out) {
         Ok(()) => {}
         Err(WriteFault) => return Err(WriteFault),
     }
     put_quoted(name, out)
+}
+
+/// Puts that the type of a block is abstract.
+fn put_abstract<K: Sink>(block: u32, out: &mut Putter<'_, K>) -> Result<(), WriteFault>
+    requires { IsSound out.old }
+    ensures ok { OnOk result (Puts K.grew K.write_faults out.old (file_fault_text (file.AbstractType block)) out.new) }
+    ensures err { OnErr result (Fails K.grew K.write_faults out.old (file_fault_text (file.AbstractType block)) out.new) }
+{
+    put_between(b"file F14: block ", block, b" abstract type", out)
+}
+
+/// Puts that the type of a block is closed, and by which reason.
+fn put_closed<K: Sink>(
+    block: u32,
+    reason: Closed,
+    out: &mut Putter<'_, K>,
+) -> Result<(), WriteFault>
+    requires { IsSound out.old }
+    ensures ok { OnOk result (Puts K.grew K.write_faults out.old (file_fault_text (file.ClosedType block reason)) out.new) }
+    ensures err { OnErr result (Fails K.grew K.write_faults out.old (file_fault_text (file.ClosedType block reason)) out.new) }
+{
+    put_counted_twice(
+        b"file F15: block ",
+        block as u64,
+        b" closed type C",
+        reason_number(reason),
+        out,
+    )
+}
+
+/// Puts that the zero word before a block isn't zero.
+fn put_check_word<K: Sink>(
+    block: u32,
+    value: u32,
+    out: &mut Putter<'_, K>,
+) -> Result<(), WriteFault>
+    requires { IsSound out.old }
+    ensures ok { OnOk result (Puts K.grew K.write_faults out.old (file_fault_text (file.CheckWord block value)) out.new) }
+    ensures err { OnErr result (Fails K.grew K.write_faults out.old (file_fault_text (file.CheckWord block value)) out.new) }
+{
+    put_counted_twice(
+        b"file F16: block ",
+        block as u64,
+        b" check word ",
+        value as u64,
+        out,
+    )
 }
 
 /// Puts the size of a block that is stated, and that which it has.
@@ -175,73 +260,24 @@ pub fn put_file_fault<K: Sink>(fault: &FileFault, out: &mut Putter<'_, K>) -> Re
         FileFault::LineTooLong { at } => put_counted(b"file F4: line too long at ", *at, out),
         FileFault::VersionRange { number } => put_range(*number, out),
         FileFault::VersionDisagrees { line, field } => put_versions(*line, *field, out),
-        FileFault::EndianValue { value } => put_counted(
-            b"file F8: endian value ",
-            *value as u64,
-            out,
-        ),
+        FileFault::EndianValue { value } => put_endian(*value, out),
         FileFault::BsRange { value } => put_counted(b"file F10: BS version ", *value as u64, out),
-        FileFault::TooManyBlocks { count } => put_between(
-            b"file F11: ",
-            *count as u64,
-            b" blocks",
-            out,
-        ),
-        FileFault::TypeIndex { block, index } => put_counted_twice(
-            b"file F12: block ",
-            *block as u64,
-            b" type index ",
-            *index as u64,
-            out,
-        ),
+        FileFault::TooManyBlocks { count } => put_between(b"file F11: ", *count, b" blocks", out),
+        FileFault::TypeIndex { block, index } => put_index(*block, *index, out),
         FileFault::UnknownType { block, name } => put_unknown(*block, name.bytes(), out),
-        FileFault::AbstractType { block } => put_between(
-            b"file F14: block ",
-            *block as u64,
-            b" abstract type",
-            out,
-        ),
-        FileFault::ClosedType { block, reason } => put_counted_twice(
-            b"file F15: block ",
-            *block as u64,
-            b" closed type C",
-            reason_number(*reason),
-            out,
-        ),
-        FileFault::CheckWord { block, value } => put_counted_twice(
-            b"file F16: block ",
-            *block as u64,
-            b" check word ",
-            *value as u64,
-            out,
-        ),
+        FileFault::AbstractType { block } => put_abstract(*block, out),
+        FileFault::ClosedType { block, reason } => put_closed(*block, *reason, out),
+        FileFault::CheckWord { block, value } => put_check_word(*block, *value, out),
         FileFault::BlockSize {
             block,
             stated,
             used,
         } => put_sizes(*block, *stated, *used, out),
-        FileFault::RefRange { at, value } => put_counted_twice(
-            b"file F18: reference ",
-            *value as u64,
-            b" at ",
-            *at,
-            out,
-        ),
-        FileFault::StringRange { at, value } => put_counted_twice(
-            b"file F19: text ",
-            *value as u64,
-            b" at ",
-            *at,
-            out,
-        ),
+        FileFault::RefRange { at, value } => put_found(b"file F18: reference ", *value, *at, out),
+        FileFault::StringRange { at, value } => put_found(b"file F19: text ", *value, *at, out),
         FileFault::TooDeep { at } => put_counted(b"file F20: too deep at ", *at, out),
         FileFault::TooManyNodes { at } => put_counted(b"file F21: too many nodes at ", *at, out),
-        FileFault::TooManyTypes { count } => put_between(
-            b"file F22: ",
-            *count as u64,
-            b" types",
-            out,
-        ),
+        FileFault::TooManyTypes { count } => put_between(b"file F22: ", *count, b" types", out),
     }
 }
 
