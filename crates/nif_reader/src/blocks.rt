@@ -16,28 +16,15 @@ ghost use Rattle.nif_lists.specs.Lists.{entry_of};
 ghost use Rattle.nif_reader.specs.Known.{HasBlock, HasBlocks, Knows, ReadsValue, size_fault};
 
 use crate::types::{Setting, read_type};
-use nif_base::{NoMemory, Order, Source, Version};
+use nif_base::{NoMemory, Order, Source};
 use nif_decode::{Bounds, decode_value, take_number};
-use nif_file::{FileFault, of_value};
+use nif_file::{FileFault, has_zero_word, of_value};
 use nif_graph::{BlockPart, Blocks};
 use nif_lists::Lists;
 use nif_schema::Context;
 use nif_stream::Taker;
 use nif_value::{Store, TreeId};
 use std::alloc::Global;
-
-/// The first version in which a zero word stands before the value of each block.
-const FIRST_ZERO: u32 = 0x0500_0001;
-
-/// The last version in which one does.
-const LAST_ZERO: u32 = 0x0A01_006A;
-
-/// Whether a zero word stands before the value of each block.
-fn has_zero_word(version: Version) -> bool
-    ensures { result ≡ has_zero_word version.number }
-{
-    FIRST_ZERO <= version.number && version.number <= LAST_ZERO
-}
 
 /// Takes the zero word before the value of a block.
 fn take_zero_word<S: Source>(
