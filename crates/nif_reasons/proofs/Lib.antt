@@ -1,11 +1,6 @@
 mod JumpLemmas
-mod LevelLemmas
 mod Lists
 mod OwnLemmas
-mod PathLemmas
 mod ReasonLemmas
-mod ShapeLemmas
-mod StopLemmas
-mod TableLemmas
 mod TreeLemmas
 mod WayLemmas

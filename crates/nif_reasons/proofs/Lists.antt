@@ -1,9 +1,6 @@
 -- What holds of each place of a list.
 use Rattle.std.proofs.Common.{set, ◌⊎◌, inl, inr, ◌≡◌, ℕ, zero, suc, ◌+◌, List, [], ◌∷◌, ◌++◌, length, Some, slice_get, get_or, take, drop, ◌<◌, ◌≤◌, refl, sym, ap, ◌∙◌, subst, arith}
 
-pub each-none : {X : Type 0} (P : ℕ → X → Type 0) (k : ℕ) (y : X) → slice_get [] k ≡ Some y → P k y
-each-none P k y e = absurd (cc)
-
 -- with one more member
 pub each-push : {X : Type 0} (P : ℕ → X → Type 0) (xs : List X) (x : X) → ((k : ℕ) (y : X) → slice_get xs k ≡ Some y → P k y) → P (length xs) x
     → (k : ℕ) (y : X) → slice_get (xs ++ x ∷ []) k ≡ Some y → P k y
@@ -15,24 +12,7 @@ each-push P (z ∷ zs) x each own (suc k) y e =
     let last : P (suc (length zs)) x = subst (λ i. P i x) n own in
     each-push (λ i. P (suc i)) zs x (λ i v h. each (suc i) v h) last k y e
 
--- one more of those in front
-pub take-next : {X : Type 0} (xs : List X) (n : ℕ) (x : X) → slice_get xs n ≡ Some x → take (n + 1) xs ≡ take n xs ++ x ∷ []
-take-next [] n x e = absurd (cc)
-take-next (y ∷ ys) zero x e = let same : y ≡ x = cc in let z : 0 + 1 ≡ suc zero = omega arith in ap (λ m. take m (y ∷ ys)) z ∙ ap (λ v. v ∷ []) same
-take-next (y ∷ ys) (suc n) x e = let z : suc n + 1 ≡ suc (n + 1) = omega arith in ap (λ m. take m (y ∷ ys)) z ∙ ap (λ l. y ∷ l) (take-next ys n x e)
-
--- what is left at a member that is there
-pub drop-at : {X : Type 0} (xs : List X) (n : ℕ) (d : X) → n < length xs → drop n xs ≡ get_or xs n d ∷ drop (n + 1) xs
-drop-at [] n d lt = absurd (omega arith)
-drop-at (y ∷ ys) zero d lt = let z : 0 + 1 ≡ suc zero = omega arith in sym (ap (λ m. y ∷ drop m (y ∷ ys)) z)
-drop-at (y ∷ ys) (suc n) d lt = let z : suc n + 1 ≡ suc (n + 1) = omega arith in drop-at ys n d (omega arith) ∙ sym (ap (λ m. get_or ys n d ∷ drop m (y ∷ ys)) z)
-
-pub drop_past : {X : Type 0} (xs : List X) (n : ℕ) → length xs ≤ n → drop n xs ≡ []
-drop_past [] zero le = refl
-drop_past [] (suc n) le = refl
-drop_past (x ∷ xs) zero le = absurd (omega arith)
-drop_past (x ∷ xs) (suc n) le = drop_past xs n (omega arith)
-
+-- what is left at a member that was got
 pub drop-next : {X : Type 0} (xs : List X) (n : ℕ) (x : X) → slice_get xs n ≡ Some x → drop n xs ≡ x ∷ drop (n + 1) xs
 drop-next [] n x e = absurd (cc)
 drop-next (y ∷ ys) zero x e = cc

@@ -9,7 +9,7 @@ use Rattle.nif_schema.specs.Expression.{Number, Arg, Path, Not, Two}
 use Rattle.nif_schema.specs.Schema.{Schema}
 use Rattle.nif_schema.specs.Paths.{OfField, fields_named, is_empty, is_number, is_number_array}
 use Rattle.nif_reasons.specs.FieldReasons.{bare_name}
-use Rattle.nif_reasons.specs.Shaped.{shape, field_shape}
+use Rattle.nif_paths.specs.Shaped.{shape, field_shape}
 use Rattle.nif_schema.specs.Reasons.{first_reason, reason_where, formula_reason, width_reason, bare_width_reason, width_where}
 use Rattle.nif_schema.specs.declared.faults.Closed.{Closed}
 use Rattle.nif_schema.specs.declared.faults.Closed.TheVariants.{C4, C9, C11, C12}

@@ -1,7 +1,4 @@
 pub mod Answers
 pub mod FieldReasons
 pub mod Jumps
-pub mod Levels
-pub mod Marks
-pub mod Shaped
 pub mod Ways

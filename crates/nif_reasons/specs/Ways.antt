@@ -6,7 +6,7 @@ use Rattle.std.specs.declared.option.Option.{Option}
 use Rattle.nif_names.specs.Tables.{Table}
 use Rattle.nif_schema.specs.Declaration.{Field}
 use Rattle.nif_schema.specs.Schema.{Schema, parent, fields_of}
-use Rattle.nif_reasons.specs.Marks.{IsLine}
+use Rattle.nif_paths.specs.Marks.{IsLine}
 
 -- each is the child of the one before it, the first that of `above`
 abbrev pub IsWayFrom : Schema → Option ℕ → List ℕ → Type 0

@@ -5,15 +5,14 @@ ghost use Rattle.nif_schema.specs.Declaration.{field};
 ghost use Rattle.nif_schema.specs.Reasons as spec;
 ghost use Rattle.nif_schema.specs.Uses.{is_reference};
 ghost use Rattle.nif_reasons.specs.FieldReasons.{plain_reason, condition_reason, size_reason};
-ghost use Rattle.nif_reasons.specs.Marks.{Gives, IsLine};
-ghost use Rattle.nif_reasons.specs.Shaped.{AreMarks, AreInsides};
+ghost use Rattle.nif_paths.specs.Marks.{Gives, IsLine};
+ghost use Rattle.nif_paths.specs.Shaped.{AreMarks, AreInsides};
 
 use crate::formulas::{formula_reason, width_reason};
-use crate::shapes::named;
 use nif_base::{NoMemory, Word};
 use nif_names::Names;
 use nif_schema::{Bound, Closed, Exact, Field, Leaf, Schema, What};
-use nif_uses::is_own_template;
+use nif_uses::{is_own_template, named};
 use std::alloc::Global;
 
 fn kind_reason(schema: &Schema, in_struct: bool, of: &Field) -> Option<Closed>

@@ -8,11 +8,11 @@ ghost use Rattle.nif_schema.specs.Expression.{tree};
 ghost use Rattle.nif_schema.specs.Paths.{path_reason, paths_of};
 ghost use Rattle.nif_schema.specs.Reasons as spec;
 ghost use Rattle.nif_reasons.specs.FieldReasons.{bare_name, only_name};
-ghost use Rattle.nif_reasons.specs.Marks.{Gives};
+ghost use Rattle.nif_paths.specs.Marks.{Gives};
 
-use crate::paths::path_reason;
 use nif_base::{NoMemory, Word};
 use nif_names::{Names, Shapes};
+use nif_paths::path_reason;
 use nif_schema::{Closed, Expr, Formula, Path};
 use std::alloc::Global;
 

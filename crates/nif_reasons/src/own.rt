@@ -3,18 +3,17 @@ ghost use Rattle.std.specs.Prelude.{◌≡◌, ℕ, ◌<◌, ◌+◌, ◌*◌, l
 ghost use Rattle.std.specs.List.{list_any};
 ghost use Rattle.nif_schema.specs.Reasons as spec;
 ghost use Rattle.nif_reasons.specs.Jumps.{AreJumps};
-ghost use Rattle.nif_reasons.specs.Shaped.{AreMarks, AreInsides};
+ghost use Rattle.nif_paths.specs.Shaped.{AreMarks, AreInsides};
 ghost use Rattle.nif_reasons.specs.Ways.{IsAt};
 ghost use Rattle.nif_reasons.specs.Answers.{AreFound};
 ghost use Rattle.nif_reasons.specs.FieldReasons.{type_reason, early_reason};
 
 use crate::jumps::{Jump, all_steps, lacks_parent};
-use crate::shapes::storage_width;
-use crate::tables::inside_tables;
 use crate::visits::visits;
 use crate::ways::{Way, own_fields_reason};
 use nif_base::NoMemory;
 use nif_names::Names;
+use nif_paths::{inside_tables, storage_width};
 use nif_schema::{BitMember, BitMembers, Closed, Leaf, Schema, What};
 use nif_uses::generic_structs;
 use std::alloc::Global;

@@ -5,14 +5,14 @@ ghost use Rattle.nif_schema.specs.Declaration as plain;
 ghost use Rattle.nif_schema.specs.Declaration.{field};
 ghost use Rattle.nif_schema.specs.Schema.{parent, ancestor, fields_of};
 ghost use Rattle.nif_schema.specs.Reasons as spec;
-ghost use Rattle.nif_reasons.specs.Marks.{IsLine};
-ghost use Rattle.nif_reasons.specs.Shaped.{AreMarks, AreInsides};
+ghost use Rattle.nif_paths.specs.Marks.{IsLine};
+ghost use Rattle.nif_paths.specs.Shaped.{AreMarks, AreInsides};
 ghost use Rattle.nif_reasons.specs.Ways.{IsAt, last_or, fields_on, has_struct};
 
 use crate::fields::field_reason;
-use crate::tables::{pop_field, push_field};
 use nif_base::NoMemory;
 use nif_names::Names;
+use nif_paths::{pop_field, push_field};
 use nif_schema::{Closed, Field, Fields, Schema, What};
 use std::alloc::Global;
 

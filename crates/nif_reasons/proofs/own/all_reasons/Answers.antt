@@ -4,7 +4,7 @@ use Rattle.std.proofs.lemmas.Option.{slice_get-get_or}
 use Rattle.nif_schema.specs.Reasons.{own_reason}
 use Rattle.nif_reasons.specs.Ways.{IsAt}
 use Rattle.nif_reasons.proofs.Lists.{below-push}
-use Rattle.nif_reasons.proofs.StopLemmas.{IsLine-none}
+use Rattle.nif_paths.proofs.StopLemmas.{IsLine-none}
 use Rattle.nif_reasons.proofs.own.all_reasons.Goals as goal
 
 if_some : {X : Type 0} {P : X → Type 0} (o : Option X) → ((x : X) → o ≡ Some x → P x) → IfSome o P

@@ -1,7 +1,7 @@
 use Rattle.std.proofs.Common.{◌≡◌, ◌∷◌, [], ◌++◌, List, map, take, drop}
 use Rattle.nif_schema.specs.Declaration.{Field, field}
 use Rattle.nif_schema.specs.Reasons.{first_reason, fields_reason}
-use Rattle.nif_reasons.specs.Marks.{IsLine}
+use Rattle.nif_paths.specs.Marks.{IsLine}
 use Rattle.nif_reasons.proofs.ways.add_fields.Given as goal
 
 abbrev pub invariant-loop-place : goal.invariant-loop-place

@@ -1,6 +1,6 @@
 use Rattle.std.proofs.Common.{◌≤◌, ◌++◌, List, length, map, take}
 use Rattle.nif_schema.specs.Declaration.{Field, field}
-use Rattle.nif_reasons.specs.Marks.{IsLine}
+use Rattle.nif_paths.specs.Marks.{IsLine}
 use Rattle.nif_reasons.proofs.ways.drop_fields.Given as goal
 
 abbrev pub invariant-loop-left : goal.invariant-loop-left

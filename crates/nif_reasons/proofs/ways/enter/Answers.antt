@@ -2,7 +2,7 @@ use Rattle.std.proofs.Common.{◌++◌, [], None, Option, false, map, sym, ap, s
 use Rattle.std.specs.Option.{option_map_or}
 use Rattle.nif_schema.specs.Declaration.{Declaration, field}
 use Rattle.nif_schema.specs.Reasons as spec
-use Rattle.nif_reasons.specs.Marks.{IsLine}
+use Rattle.nif_paths.specs.Marks.{IsLine}
 use Rattle.nif_reasons.specs.Ways.{IsAt, fields_on, has_struct}
 use Rattle.nif_schema.specs.Uses.{is_struct}
 use Rattle.nif_reasons.proofs.WayLemmas.{way-push, fields-push}

@@ -1,7 +1,7 @@
 use Rattle.std.proofs.Common.{◌++◌, [], None, Option, ap, subst, ◌∙◌}
 use Rattle.std.specs.Option.{option_map_or}
 use Rattle.nif_schema.specs.Declaration.{Declaration}
-use Rattle.nif_reasons.specs.Marks.{IsLine}
+use Rattle.nif_paths.specs.Marks.{IsLine}
 use Rattle.nif_reasons.specs.Ways.{IsWayFrom, fields_on}
 use Rattle.nif_reasons.proofs.WayLemmas.{way-pop, fields-push}
 use Rattle.nif_reasons.proofs.ways.leave.Goals as goal

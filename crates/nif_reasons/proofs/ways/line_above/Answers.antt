@@ -5,8 +5,8 @@ use denote.Bor.{Bor}
 use Rattle.nif_schema.specs.Declaration.{field}
 use Rattle.nif_schema.specs.Schema.{line}
 use Rattle.nif_schema.specs.declared.fields.Field as kept
-use Rattle.nif_reasons.specs.Marks.{IsLine}
-use Rattle.nif_reasons.proofs.StopLemmas.{IsLine-none}
+use Rattle.nif_paths.specs.Marks.{IsLine}
+use Rattle.nif_paths.proofs.StopLemmas.{IsLine-none}
 use Rattle.nif_reasons.proofs.WayLemmas.{parent-ends}
 use Rattle.nif_reasons.proofs.ways.line_above.Goals as goal
 

@@ -1,6 +1,6 @@
 use Rattle.std.proofs.Common.{map}
 use Rattle.nif_schema.specs.Declaration.{field}
-use Rattle.nif_reasons.specs.Marks.{IsLine}
+use Rattle.nif_paths.specs.Marks.{IsLine}
 use Rattle.nif_reasons.proofs.ways.line_above.Given as goal
 
 abbrev pub invariant-loop-of : goal.invariant-loop-of

@@ -1,0 +1,6 @@
+pub mod Lists
+pub mod LevelLemmas
+pub mod PathLemmas
+pub mod ShapeLemmas
+pub mod StopLemmas
+pub mod TableLemmas
