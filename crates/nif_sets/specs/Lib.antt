@@ -1,0 +1,4 @@
+pub mod Insides
+pub mod Kept
+pub mod Likes
+pub mod Sets
