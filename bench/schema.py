@@ -114,6 +114,26 @@ def different_rests_of_two_names(size):
     return "<niftoolsxml>" + PLAIN + structs + '<struct name="S">' + fields + paths + "</struct></niftoolsxml>"
 
 
+def many_first_names_of_one_type(size):
+    """Paths of three names, each with a first name of its own, whose one type has a name of as many types."""
+    count = size // 200
+    inner = "".join('<struct name="U%d"><field name="c" type="uint"/></struct>' % i for i in range(count))
+    middle = '<struct name="T">' + "".join('<field name="b" type="U%d"/>' % i for i in range(count)) + "</struct>"
+    firsts = "".join('<field name="a%d" type="T"/>' % i for i in range(count))
+    paths = "".join('<field name="x" type="uint" cond="a%d\\b\\c"/>' % i for i in range(count))
+    return "<niftoolsxml>" + PLAIN + inner + middle + '<struct name="S">' + firsts + paths + "</struct></niftoolsxml>"
+
+
+def many_rests_through_one_inner_type(size):
+    """Paths of three names, each with a last name of its own, behind a first name of as many types that lead to one."""
+    count = size // 190
+    inner = '<struct name="U">' + "".join('<field name="c%d" type="uint"/>' % i for i in range(count)) + "</struct>"
+    middle = "".join('<struct name="T%d"><field name="b" type="U"/></struct>' % i for i in range(count))
+    firsts = "".join('<field name="a" type="T%d"/>' % i for i in range(count))
+    paths = "".join('<field name="x" type="uint" cond="a\\b\\c%d"/>' % i for i in range(count))
+    return "<niftoolsxml>" + PLAIN + inner + middle + '<struct name="S">' + firsts + paths + "</struct></niftoolsxml>"
+
+
 def long_paths(size):
     head = '<struct name="V"><field name="V" type="V"/></struct><struct name="S"><field name="V" type="V"/>'
     return filled(size, lambda i: '<field name="F" type="uint" cond="%s"/>' % "\\".join(["V"] * 1900), head, "</struct>")
@@ -161,7 +181,9 @@ def tokens(size):
 
 SHAPES = [chain, chain_backwards, loop_of_parents, chain_with_fields, conditions_on_the_first, one_name, paths_through_one_name,
           paths_through_many_types, types_and_paths_in_turn,
-          paths_with_a_reason_in_children, types_and_paths_in_children, different_rests_of_two_names, long_paths, ring, uses_of_one_closed, children_of_one, attributes, references, deep, text_and_comments, unfinished, tokens]
+          paths_with_a_reason_in_children, types_and_paths_in_children, different_rests_of_two_names,
+          many_first_names_of_one_type, many_rests_through_one_inner_type, long_paths, ring, uses_of_one_closed, children_of_one,
+          attributes, references, deep, text_and_comments, unfinished, tokens]
 
 
 def best(words, runs=3):
@@ -178,7 +200,7 @@ def best(words, runs=3):
 def main():
     program = os.path.abspath(sys.argv[1] if len(sys.argv) > 1 else "crates/nif/out/nif")
     sizes = [1 << 19, 1 << 20, 1 << 21, 1 << 22]
-    print("%-32s" % "shape" + "".join("%9s MiB" % (s / (1 << 20)) for s in sizes) + "    growth    cat")
+    print("%-34s" % "shape" + "".join("%9s MiB" % (s / (1 << 20)) for s in sizes) + "    growth    cat")
     with tempfile.TemporaryDirectory() as folder:
         for shape in SHAPES:
             seconds, yardstick = [], 0.0
@@ -189,7 +211,7 @@ def main():
                 seconds.append(best([program, "schema", path]))
                 yardstick = best(["cat", path])
             growth = " ".join("%.1f" % (b / a) for a, b in zip(seconds, seconds[1:]))
-            print("%-32s" % shape.__name__ + "".join("%13.3f" % s for s in seconds) + "    " + growth + "  %.3f" % yardstick)
+            print("%-34s" % shape.__name__ + "".join("%13.3f" % s for s in seconds) + "    " + growth + "  %.3f" % yardstick)
     print("most memory held by a run: %d kB" % resource.getrusage(resource.RUSAGE_CHILDREN).ru_maxrss)
 
 

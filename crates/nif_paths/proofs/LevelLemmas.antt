@@ -1,27 +1,23 @@
--- Lists of shapes that are alike, and what the next name of a path means.
-use Rattle.std.proofs.Common.{◌≡◌, ℕ, ◌+◌, ◌*◌, ◌<◌, ◌≤◌, ◌↔◌, ◌⊎◌, Bool, true, false, cond, not, ◌&&◌, ◌||◌, List, [], ◌∷◌, ◌++◌, length, map, flat_map, get_or, slice_get, drop, Contains, Option, Some, None, is_some, is_none, option_and_then, option_to_list, inl, inr, refl, sym, ap, subst, ◌∙◌, true≢false, arith}
+-- What the names of a path mean, by the tables of types.
+use Rattle.std.proofs.Common.{◌≡◌, ℕ, ◌<◌, ◌≤◌, ◌⊎◌, Bool, true, false, cond, not, ◌&&◌, ◌||◌, List, [], ◌∷◌, ◌++◌, length, map, flat_map, get_or, slice_get, drop, Contains, Option, Some, None, is_some, is_none, option_and_then, option_to_list, inl, inr, refl, sym, ap, subst, ◌∙◌, true≢false, arith}
 use Rattle.std.specs.List.{list_any, list_all}
 use Rattle.std.specs.Option.{option_map_or}
-use Rattle.std.proofs.lemmas.Grind.{flat_map-append}
-use Rattle.std.proofs.lemmas.List.{map-append, append-nil}
+use Rattle.std.proofs.lemmas.List.{map-append}
 use Rattle.std.proofs.lemmas.List.Folds.{list_any_at}
-use Rattle.std.proofs.lemmas.List.Folds.{list_all-append, list_any-append}
 use Rattle.std.proofs.lemmas.List.Elements.{Contains-append_left, Contains-append_right, Contains-append_cases}
 use Rattle.std.proofs.lemmas.Option.{slice_get_cases, slice_get_past}
-use Rattle.nif_names.specs.declared.shapes.Shape.{Shape}
-use Rattle.nif_names.specs.Shapes.{inners, Alike}
+use Rattle.nif_names.specs.Shapes.{inners}
 use Rattle.nif_names.specs.Tables.{Table, held}
 use Rattle.nif_schema.specs.Declaration.{Name, Field, Formula}
 use Rattle.nif_schema.specs.Schema.{Schema}
 use Rattle.nif_schema.specs.Uses.{named, what_at}
 use Rattle.nif_schema.specs.Paths.{Meaning, OfField, OfBits, goes_on, has_names, inside, inside_type, is_empty, ends_path, rest_reason, path_reason, fields_named, is_header_path}
 use Rattle.nif_schema.specs.declared.faults.Closed.TheVariants.{C5, C6}
+use Rattle.nif_sets.specs.Insides as sets
+use Rattle.nif_sets.specs.Insides.{held_at, is_lacking, shapes_in}
 use Rattle.nif_paths.specs.Shaped.{shape, field_shape, inner_of, with_names, lead, AreInsides}
-use Rattle.nif_paths.specs.Levels.{held_at, IsAdded, IsEnded, IsLevel, HasLevel}
-use Rattle.nif_paths.specs.Marks.{rest_stop, types_stop}
-
-abbrev Same : List ℕ → List ℕ → Type 0
-Same xs ys = (k : ℕ) → Contains xs k ↔ Contains ys k
+use Rattle.nif_paths.specs.Levels.{IsEnded}
+use Rattle.nif_paths.specs.Marks.{types_stop}
 
 pub both_ways : (a b : Bool) → (a ≡ true → b ≡ true) → (b ≡ true → a ≡ true) → a ≡ b
 both_ways true true f g = refl
@@ -63,10 +59,6 @@ module _ {X : Type 0} (q : X → Bool) where
   all-from [] each = refl
   all-from (x ∷ xs) each = ap (λ b. b && list_all q xs) (each x (contains-head x xs)) ∙ all-from xs (λ k h. each k (contains-tail x xs k h))
 
-all-same : (q : ℕ → Bool) (xs ys : List ℕ) → Same xs ys → list_all q xs ≡ list_all q ys
-all-same q xs ys same = both_ways (list_all q xs) (list_all q ys)
-    (λ h. all-from q ys (λ k is. all-to q xs k h ((same k).1 is))) (λ h. all-from q xs (λ k is. all-to q ys k h ((same k).0 is)))
-
 pub any-not : {X : Type 0} (q : X → Bool) (xs : List X) → list_any q xs ≡ not (list_all (λ k. not (q k)) xs)
 any-not q [] = refl
 any-not q (x ∷ xs) = by (q x) (any-not q xs)
@@ -74,9 +66,6 @@ any-not q (x ∷ xs) = by (q x) (any-not q xs)
     by : (b : Bool) → list_any q xs ≡ not (list_all (λ k. not (q k)) xs) → (b || list_any q xs) ≡ not (not b && list_all (λ k. not (q k)) xs)
     by true e = refl
     by false e = e
-
-any-same : (q : ℕ → Bool) (xs ys : List ℕ) → Same xs ys → list_any q xs ≡ list_any q ys
-any-same q xs ys same = any-not q xs ∙ ap not (all-same (λ k. not (q k)) xs ys same) ∙ sym (any-not q ys)
 
 -- what the parts hold together
 module _ {X Y : Type 0} (h : X → List Y) where
@@ -95,72 +84,6 @@ module _ {X Y : Type 0} (h : X → List Y) where
         | inl here ↦ Contains-append_left (h y) (flat_map h xs) k (subst (λ z. Contains (h z) k) (sym (only_one y x here)) has)
         | inr later ↦ Contains-append_right (h y) (flat_map h xs) k (flat-from xs x k later has)
       ]
-
-all-flat : (p : Shape → Bool) (g : ℕ → List Shape) (xs : List ℕ) → list_all p (flat_map g xs) ≡ list_all (λ k. list_all p (g k)) xs
-all-flat p g [] = refl
-all-flat p g (x ∷ xs) = list_all-append p (g x) (flat_map g xs) ∙ ap (λ b. list_all p (g x) && b) (all-flat p g xs)
-
-inners-flat : (g : ℕ → List Shape) (xs : List ℕ) → inners (flat_map g xs) ≡ flat_map (λ k. inners (g k)) xs
-inners-flat g [] = refl
-inners-flat g (x ∷ xs) = flat_map-append (λ s. option_to_list s.inner) (g x) (flat_map g xs) ∙ ap (λ l. inners (g x) ++ l) (inners-flat g xs)
-
-Alike-same : (g : ℕ → List Shape) (xs ys : List ℕ) → Same xs ys → Alike (flat_map g xs) (flat_map g ys)
-Alike-same g xs ys same = record {
-  numbers = each (λ s. s.number);
-  rows = each (λ s. s.row);
-  inner = each (λ s. is_some s.inner);
-  types = λ k. (over xs ys k (λ x. (same x).0), over ys xs k (λ x. (same x).1));
-}
-  where
-    each : (p : Shape → Bool) → list_all p (flat_map g xs) ≡ list_all p (flat_map g ys)
-    each p = all-flat p g xs ∙ all-same (λ k. list_all p (g k)) xs ys same ∙ sym (all-flat p g ys)
-
-    over : (ls rs : List ℕ) (k : ℕ) → ((x : ℕ) → Contains ls x → Contains rs x) → Contains (inners (flat_map g ls)) k → Contains (inners (flat_map g rs)) k
-    over ls rs k f is =
-        let r = flat-to (λ x. inners (g x)) ls k (subst (λ l. Contains l k) (inners-flat g ls) is) in
-        subst (λ l. Contains l k) (sym (inners-flat g rs)) (flat-from (λ x. inners (g x)) rs r.0 k (f r.0 r.1) r.2)
-
-Alike-trans : (xs ys zs : List Shape) → Alike xs ys → Alike ys zs → Alike xs zs
-Alike-trans xs ys zs a b = record {
-  numbers = a.numbers ∙ b.numbers;
-  rows = a.rows ∙ b.rows;
-  inner = a.inner ∙ b.inner;
-  types = λ k. ((λ h. (b.types k).0 ((a.types k).0 h)), (λ h. (a.types k).1 ((b.types k).1 h)));
-}
-
-Alike-front : (xs ys zs : List Shape) → Alike xs ys → Alike (xs ++ zs) (ys ++ zs)
-Alike-front xs ys zs a = record {
-  numbers = front (λ s. s.number) a.numbers;
-  rows = front (λ s. s.row) a.rows;
-  inner = front (λ s. is_some s.inner) a.inner;
-  types = λ k. (over xs ys k (a.types k).0, over ys xs k (a.types k).1);
-}
-  where
-    front : (p : Shape → Bool) → list_all p xs ≡ list_all p ys → list_all p (xs ++ zs) ≡ list_all p (ys ++ zs)
-    front p e = list_all-append p xs zs ∙ ap (λ b. b && list_all p zs) e ∙ sym (list_all-append p ys zs)
-
-    over : (ls rs : List Shape) (k : ℕ) → (Contains (inners ls) k → Contains (inners rs) k) → Contains (inners (ls ++ zs)) k → Contains (inners (rs ++ zs)) k
-    over ls rs k f is =
-        subst (λ l. Contains l k) (sym (flat_map-append (λ s. option_to_list s.inner) rs zs))
-        (elim (Contains-append_cases (inners ls) (inners zs) k (subst (λ l. Contains l k) (flat_map-append (λ s. option_to_list s.inner) ls zs) is)) [
-          | inl here ↦ Contains-append_left (inners rs) (inners zs) k (f here)
-          | inr later ↦ Contains-append_right (inners rs) (inners zs) k later
-        ])
-
--- one more inner type
-pub IsAdded-push : (tables : List Table) (name : Name) (ks : List ℕ) (k : ℕ) (next more : List Shape) → IsAdded tables name ks next
-    → Alike more (next ++ held_at tables name k) → (held_at tables name k ≡ [] → ⊥) → IsAdded tables name (ks ++ k ∷ []) more
-IsAdded-push tables name ks k next more is alike some = record {
-  alike = subst (Alike more) (sym (flat_map-append (held_at tables name) ks (k ∷ []) ∙ ap (λ l. flat_map (held_at tables name) ks ++ l) (append-nil (held_at tables name k))))
-      (Alike-trans more (next ++ held_at tables name k) (flat_map (held_at tables name) ks ++ held_at tables name k) alike
-      (Alike-front next (flat_map (held_at tables name) ks) (held_at tables name k) is.alike));
-  found = list_any-append (λ x. is_empty (held_at tables name x)) ks (k ∷ []) ∙ ap (λ b. b || (is_empty (held_at tables name k) || false)) is.found
-      ∙ ap (λ b. b || false) (not_empty (held_at tables name k) some);
-}
-  where
-    not_empty : (l : List Shape) → (l ≡ [] → ⊥) → is_empty l ≡ false
-    not_empty [] f = absurd (f refl)
-    not_empty (x ∷ xs) f = refl
 
 module _ (S : Schema) (name : Name) where
   -- a meaning that goes on has an inner type, and what the name means in it
@@ -199,7 +122,7 @@ module _ (S : Schema) (name : Name) where
       ∙ sym (ap (λ o. list_any (λ k. is_empty (lead S name k)) (option_to_list o ++ inners (map (shape S) ms))) r.1)
 
   module _ (tables : List Table) (insides : AreInsides S tables) where
-    held-lead : (k : ℕ) → held_at tables name k ≡ map (shape S) (lead S name k)
+    pub held-lead : (k : ℕ) → held_at tables name k ≡ map (shape S) (lead S name k)
     unfolding lead
     held-lead k = by (slice_get tables k) refl (slice_get_cases tables k).1
       where
@@ -213,42 +136,22 @@ module _ (S : Schema) (name : Name) where
             ap (λ p. option_map_or (λ table. held table name) p []) r.1
             ∙ sym (ap (λ p. map (shape S) (option_map_or (inside_type S name k) (option_and_then (λ x. Some x.what) p) [])) lost)
 
-    pub held-leads : (ks : List ℕ) → flat_map (held_at tables name) ks ≡ map (shape S) (flat_map (lead S name) ks)
+    pub held-leads : (ks : List ℕ) → shapes_in tables name ks ≡ map (shape S) (flat_map (lead S name) ks)
     held-leads [] = refl
     held-leads (k ∷ ks) =
         ap (λ l. l ++ flat_map (held_at tables name) ks) (held-lead k) ∙ ap (λ l. map (shape S) (lead S name k) ++ l) (held-leads ks)
         ∙ sym (map-append (shape S) (lead S name k) (flat_map (lead S name) ks))
 
-    pub held-lacks : (ks : List ℕ) → list_any (λ k. is_empty (held_at tables name k)) ks ≡ list_any (λ k. is_empty (lead S name k)) ks
+    pub held-lacks : (ks : List ℕ) → is_lacking tables name ks ≡ list_any (λ k. is_empty (lead S name k)) ks
     held-lacks [] = refl
     held-lacks (k ∷ ks) =
-        ap (λ l. is_empty l || list_any (λ x. is_empty (held_at tables name x)) ks) (held-lead k)
-        ∙ ap (λ b. b || list_any (λ x. is_empty (held_at tables name x)) ks) (empty_map (lead S name k))
+        ap (λ l. sets.is_empty l || is_lacking tables name ks) (held-lead k)
+        ∙ ap (λ b. b || is_lacking tables name ks) (empty_map (lead S name k))
         ∙ ap (λ b. is_empty (lead S name k) || b) (held-lacks ks)
       where
-        empty_map : (l : List Meaning) → is_empty (map (shape S) l) ≡ is_empty l
+        empty_map : (l : List Meaning) → sets.is_empty (map (shape S) l) ≡ is_empty l
         empty_map [] = refl
         empty_map (x ∷ xs) = refl
-
-    module _ (ms : List Meaning) (level : List Shape) (ks : List ℕ) (is : IsLevel S ms level) (all : list_all (goes_on S) ms ≡ true) (same : Same ks (inners level)) where
-      kinds : Same ks (inners (map (shape S) ms))
-      kinds = λ k. ((λ h. (is.types k).0 ((same k).0 h)), (λ h. (same k).1 ((is.types k).1 h)))
-
-      lacking : list_any (λ m. is_empty (inside S name m)) ms ≡ list_any (λ k. is_empty (held_at tables name k)) ks
-      lacking = lacks-all ms all ∙ sym (any-same (λ k. is_empty (lead S name k)) ks (inners (map (shape S) ms)) kinds) ∙ sym (held-lacks ks)
-
-      -- a meaning lacks the name
-      pub level-none : list_any (λ k. is_empty (held_at tables name k)) ks ≡ true → HasLevel S ms name None
-      level-none some = lacking ∙ some
-
-      -- all have it
-      pub level-some : (next : List Shape) → IsAdded tables name ks next → HasLevel S ms name (Some next)
-      level-some next added = (
-        lacking ∙ added.found,
-        subst (Alike next) (held-leads (inners (map (shape S) ms)) ∙ ap (map (shape S)) (sym (lead-all ms all)))
-            (Alike-trans next (flat_map (held_at tables name) ks) (flat_map (held_at tables name) (inners (map (shape S) ms))) added.alike
-            (Alike-same (held_at tables name) ks (inners (map (shape S) ms)) kinds)),
-      )
 
 -- what the shapes of meanings say
 module _ (S : Schema) where
@@ -288,43 +191,17 @@ module _ (S : Schema) where
         ∙ ap (λ b. cond b 0 1) (ap (list_all (λ s. s.number)) (held-leads S name tables insides ks) ∙ all-end (flat_map (lead S name) ks))
         ∙ sym (ap (λ b. cond b 2 (cond (list_all (ends_path S) (flat_map (lead S name) ks)) 0 1)) (sym (held-lacks S name tables insides ks) ∙ is.found))
 
-    pub last-lacks : list_any (λ k. is_empty (held_at tables name k)) ks ≡ true → 2 ≡ types_stop S ks (name ∷ [])
+    pub last-lacks : is_lacking tables name ks ≡ true → 2 ≡ types_stop S ks (name ∷ [])
     last-lacks some = sym (ap (λ b. cond b 2 (cond (list_all (ends_path S) (flat_map (lead S name) ks)) 0 1)) (sym (held-lacks S name tables insides ks) ∙ some))
 
   -- one name of a path
-  module _ (ms : List Meaning) (level : List Shape) (is : IsLevel S ms level) where
-    pub reason-end : rest_reason S ms [] ≡ cond (list_all (λ s. s.number) level) None (Some C6)
-    reason-end = sym (ap (λ b. cond b None (Some C6)) (is.numbers ∙ all-end ms))
+  module _ (ms : List Meaning) where
+    pub reason-end : rest_reason S ms [] ≡ cond (list_all (λ s. s.number) (map (shape S) ms)) None (Some C6)
+    reason-end = sym (ap (λ b. cond b None (Some C6)) (all-end ms))
 
-    pub reason-stop : (name : Name) (names : List Name) → list_all (λ s. is_some s.inner) level ≡ false → rest_reason S ms (name ∷ names) ≡ Some C6
+    pub reason-stop : (name : Name) (names : List Name) → list_all (λ s. is_some s.inner) (map (shape S) ms) ≡ false → rest_reason S ms (name ∷ names) ≡ Some C6
     reason-stop name names e =
-        ap (λ b. cond b (cond (list_any (λ m. is_empty (inside S name m)) ms) (Some C5) (rest_reason S (flat_map (inside S name) ms) names)) (Some C6)) (sym (go-on ms) ∙ sym is.inner ∙ e)
-
-    pub stop-end : rest_stop S ms [] ≡ cond (list_all (λ s. s.number) level) 0 1
-    stop-end = sym (ap (λ b. cond b 0 1) (is.numbers ∙ all-end ms))
-
-    module _ (name : Name) (names : List Name) where
-      most : ℕ
-      most = 2 * length (name ∷ names)
-
-      going : (b : Bool) → list_all (λ s. is_some s.inner) level ≡ b → rest_stop S ms (name ∷ names)
-          ≡ cond b (cond (list_any (λ m. is_empty (inside S name m)) ms) most (rest_stop S (flat_map (inside S name) ms) names)) (most + 1)
-      unfolding most
-      going b e = ap (λ b. cond b (cond (list_any (λ m. is_empty (inside S name m)) ms) (2 * length (name ∷ names)) (rest_stop S (flat_map (inside S name) ms) names)) (2 * length (name ∷ names) + 1))
-          (sym (go-on ms) ∙ sym is.inner ∙ e)
-
-      pub stop-stop : list_all (λ s. is_some s.inner) level ≡ false → rest_stop S ms (name ∷ names) ≡ 2 * length (name ∷ names) + 1
-      unfolding most
-      stop-stop e = going false e
-
-      pub stop-lacks : list_all (λ s. is_some s.inner) level ≡ true → HasLevel S ms name None → rest_stop S ms (name ∷ names) ≡ 2 * length (name ∷ names)
-      unfolding most
-      stop-lacks e lacks = going true e ∙ ap (λ b. cond b (2 * length (name ∷ names)) (rest_stop S (flat_map (inside S name) ms) names)) lacks
-
-      pub stop-next : (next : List Shape) → list_all (λ s. is_some s.inner) level ≡ true → HasLevel S ms name (Some next)
-          → rest_stop S ms (name ∷ names) ≡ rest_stop S (flat_map (inside S name) ms) names
-      unfolding most
-      stop-next next e has = going true e ∙ ap (λ b. cond b (2 * length (name ∷ names)) (rest_stop S (flat_map (inside S name) ms) names)) has.0
+        ap (λ b. cond b (cond (list_any (λ m. is_empty (inside S name m)) ms) (Some C5) (rest_reason S (flat_map (inside S name) ms) names)) (Some C6)) (sym (go-on ms) ∙ e)
 
   -- the first name
   pub path-none : (fields : List Field) (first : Name) (names : List Name) → map (shape S) (fields_named first fields) ≡ []
@@ -354,6 +231,3 @@ module _ (S : Schema) where
       → path_reason S fields p ≡ rest_reason S (fields_named (get_or p 0 []) fields) (drop 1 p)
   first-some fields [] lt some = absurd (omega arith)
   first-some fields (first ∷ names) lt some = path-some fields first names some
-
-  pub Alike-refl : (xs : List Shape) → Alike xs xs
-  Alike-refl xs = record { numbers = refl; rows = refl; inner = refl; types = λ k. ((λ h. h), (λ h. h)) }

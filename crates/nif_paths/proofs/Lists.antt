@@ -1,5 +1,6 @@
 -- The members of a list before a place, and from it on.
-use Rattle.std.proofs.Common.{◌≡◌, ℕ, zero, suc, ◌+◌, List, [], ◌∷◌, ◌++◌, length, Some, slice_get, get_or, take, drop, ◌<◌, ◌≤◌, refl, sym, ap, ◌∙◌, arith}
+use Rattle.std.proofs.Common.{◌≡◌, ℕ, zero, suc, ◌+◌, Bool, true, false, not, cond, List, [], ◌∷◌, ◌++◌, length, Some, slice_get, get_or, take, drop, ◌<◌, ◌≤◌, refl, sym, ap, ◌∙◌, arith}
+use mir.Val.{bool_byte}
 
 -- one more of those in front
 pub take-next : {X : Type 0} (xs : List X) (n : ℕ) (x : X) → slice_get xs n ≡ Some x → take (n + 1) xs ≡ take n xs ++ x ∷ []
@@ -18,3 +19,16 @@ drop_past [] zero le = refl
 drop_past [] (suc n) le = refl
 drop_past (x ∷ xs) zero le = absurd (omega arith)
 drop_past (x ∷ xs) (suc n) le = drop_past xs n (omega arith)
+
+-- what `not` tells
+pub is_false : (b : Bool) → not b ≡ true → b ≡ false
+is_false true e = absurd (cc)
+is_false false e = refl
+
+pub is_true : (b : Bool) → not b ≡ false → b ≡ true
+is_true true e = refl
+is_true false e = absurd (cc)
+
+pub byte-not : (b : Bool) → bool_byte (not b) ≡ cond b 0 1
+byte-not true = refl
+byte-not false = refl

@@ -1,21 +1,23 @@
 -- Where the names of a path after the first stop, and for which types.
-use Rattle.std.proofs.Common.{◌≡◌, ℕ, suc, ◌+◌, ◌*◌, ◌%◌, ◌<◌, ◌≤◌, ◌↔◌, ◌⊎◌, max, Bool, true, false, cond, not, ◌&&◌, ◌||◌, List, [], ◌∷◌, ◌++◌, length, map, flat_map, Contains, Option, Some, None, inl, inr, refl, sym, ap, ◌∙◌, arith}
+use Rattle.std.proofs.Common.{◌≡◌, ℕ, suc, ◌+◌, ◌*◌, ◌%◌, ◌<◌, ◌≤◌, ◌↔◌, max, Bool, true, false, cond, not, ◌&&◌, ◌||◌, List, [], ◌∷◌, ◌++◌, length, map, flat_map, Contains, Option, Some, None, is_some, refl, sym, ap, subst, ◌∙◌, arith}
 use Rattle.std.specs.List.{list_any, list_all}
 use Rattle.std.proofs.lemmas.Bool.Decides.{nat_tests}
 use Rattle.std.proofs.lemmas.Grind.{flat_map-append}
-use Rattle.std.proofs.lemmas.List.{append_assoc}
 use Rattle.std.proofs.lemmas.List.Folds.{list_all-append, list_any-append}
-use Rattle.nif_names.specs.Marks.{IsFound}
 use Rattle.nif_names.specs.Shapes.{inners}
-use Rattle.nif_names.specs.Tables.{Table, held, kinds}
+use Rattle.nif_names.specs.Tables.{Table}
 use Rattle.nif_schema.specs.Declaration.{Name}
 use Rattle.nif_schema.specs.Schema.{Schema}
 use Rattle.nif_schema.specs.Paths.{Meaning, goes_on, inside, is_empty, ends_path, rest_reason}
 use Rattle.nif_schema.specs.declared.faults.Closed.{Closed}
 use Rattle.nif_schema.specs.declared.faults.Closed.TheVariants.{C5, C6}
-use Rattle.nif_paths.specs.Shaped.{shape, lead}
-use Rattle.nif_paths.specs.Marks.{types_reason, rest_stop, types_stop, stop_reason, key_of, key_of_name, HasMarks, IsLine}
-use Rattle.nif_paths.proofs.LevelLemmas.{both_ways, all-to, all-from, any-not, flat-to, flat-from, lead-all, lacks-all}
+use Rattle.nif_sets.specs.Insides.{is_lacking, shapes_in, Means, IsInside, AreKnown}
+use Rattle.nif_sets.specs.Sets.{Sets, types_of}
+use Rattle.nif_sets.specs.declared.sets.Inside.{Inside}
+use Rattle.nif_sets.specs.declared.sets.TypeSet.{TypeSet}
+use Rattle.nif_paths.specs.Shaped.{shape, lead, AreInsides}
+use Rattle.nif_paths.specs.Marks.{types_reason, rest_stop, types_stop, stop_reason}
+use Rattle.nif_paths.proofs.LevelLemmas.{both_ways, all-to, all-from, any-not, flat-to, flat-from, lead-all, lacks-all, held-leads, held-lacks, go-on, all-end}
 
 -- members in both
 abbrev pub Same : {X : Type 0} → List X → List X → Type 0
@@ -142,65 +144,97 @@ module _ (S : Schema) where
       (ap (λ l. rest_stop S l names) (flat_map-append g xs ys) ∙ rest-append names (flat_map g xs) (flat_map g ys))
 
   -- the order of meanings, and how often they stand there, doesn't matter
-  rest-same : (names : List Name) (xs ys : List Meaning) → Same xs ys → rest_reason S xs names ≡ rest_reason S ys names
-  rest-same [] xs ys same = ap (λ b. cond b None (Some C6)) (all-both xs ys same (ends_path S))
+  rest-same : (names : List Name) (xs ys : List Meaning) → Same xs ys → rest_stop S xs names ≡ rest_stop S ys names
+  rest-same [] xs ys same = ap (λ b. cond b 0 1) (all-both xs ys same (ends_path S))
   rest-same (name ∷ names) xs ys same =
+      let most = 2 * suc (length names) in
       let g = inside S name in
-      ap (λ a. cond a (cond (list_any (λ m. is_empty (g m)) xs) (Some C5) (rest_reason S (flat_map g xs) names)) (Some C6)) (all-both xs ys same (goes_on S))
-      ∙ ap (λ b. cond (list_all (goes_on S) ys) (cond b (Some C5) (rest_reason S (flat_map g xs) names)) (Some C6)) (any-both xs ys same (λ m. is_empty (g m)))
-      ∙ ap (λ r. cond (list_all (goes_on S) ys) (cond (list_any (λ m. is_empty (g m)) ys) (Some C5) r) (Some C6))
+      ap (λ a. cond a (cond (list_any (λ m. is_empty (g m)) xs) most (rest_stop S (flat_map g xs) names)) (most + 1)) (all-both xs ys same (goes_on S))
+      ∙ ap (λ b. cond (list_all (goes_on S) ys) (cond b most (rest_stop S (flat_map g xs) names)) (most + 1)) (any-both xs ys same (λ m. is_empty (g m)))
+      ∙ ap (λ r. cond (list_all (goes_on S) ys) (cond (list_any (λ m. is_empty (g m)) ys) most r) (most + 1))
       (rest-same names (flat_map g xs) (flat_map g ys) (flat-both xs ys same g))
 
-  pub types-same : (names : List Name) (xs ys : List ℕ) → Same xs ys → types_reason S xs names ≡ types_reason S ys names
+  pub types-same : (names : List Name) (xs ys : List ℕ) → Same xs ys → types_stop S xs names ≡ types_stop S ys names
   types-same [] xs ys same = refl
   types-same (name ∷ names) xs ys same =
+      let most = 2 * suc (length names) in
       let g = lead S name in
-      ap (λ b. cond b (Some C5) (rest_reason S (flat_map g xs) names)) (any-both xs ys same (λ k. is_empty (g k)))
-      ∙ ap (λ r. cond (list_any (λ k. is_empty (g k)) ys) (Some C5) r) (rest-same names (flat_map g xs) (flat_map g ys) (flat-both xs ys same g))
+      ap (λ b. cond b most (rest_stop S (flat_map g xs) names)) (any-both xs ys same (λ k. is_empty (g k)))
+      ∙ ap (λ r. cond (list_any (λ k. is_empty (g k)) ys) most r) (rest-same names (flat_map g xs) (flat_map g ys) (flat-both xs ys same g))
 
-  -- where all go on, their inner types tell the reason
+  -- where all go on, their inner types tell the stop, and the reason
+  pub to-stops : (ms : List Meaning) (name : Name) (names : List Name) → list_all (goes_on S) ms ≡ true
+      → rest_stop S ms (name ∷ names) ≡ types_stop S (inners (map (shape S) ms)) (name ∷ names)
+  to-stops ms name names all =
+      let most = 2 * suc (length names) in
+      ap (λ a. cond a (cond (list_any (λ m. is_empty (inside S name m)) ms) most (rest_stop S (flat_map (inside S name) ms) names)) (most + 1)) all
+      ∙ ap (λ b. cond b most (rest_stop S (flat_map (inside S name) ms) names)) (lacks-all S name ms all)
+      ∙ ap (λ l. cond (list_any (λ k. is_empty (lead S name k)) (inners (map (shape S) ms))) most (rest_stop S l names)) (lead-all S name ms all)
+
   pub to-types : (ms : List Meaning) (name : Name) (names : List Name) → list_all (goes_on S) ms ≡ true
       → rest_reason S ms (name ∷ names) ≡ types_reason S (inners (map (shape S) ms)) (name ∷ names)
   to-types ms name names all =
-      ap (λ a. cond a (cond (list_any (λ m. is_empty (inside S name m)) ms) (Some C5) (rest_reason S (flat_map (inside S name) ms) names)) (Some C6)) all
-      ∙ ap (λ b. cond b (Some C5) (rest_reason S (flat_map (inside S name) ms) names)) (lacks-all S name ms all)
-      ∙ ap (λ l. cond (list_any (λ k. is_empty (lead S name k)) (inners (map (shape S) ms))) (Some C5) (rest_reason S l names)) (lead-all S name ms all)
+      sym (rest-reason (name ∷ names) ms) ∙ ap stop_reason (to-stops ms name names all) ∙ types-reason (name ∷ names) (inners (map (shape S) ms))
 
--- keys tell their names
-key-first : (a b : Name) (xs ys : List ℕ) → map (λ n. n + 1) a ++ 0 ∷ xs ≡ map (λ n. n + 1) b ++ 0 ∷ ys → (a ≡ b) × (xs ≡ ys)
-key-first [] [] xs ys e = (refl, (let h : xs ≡ ys = cc in h))
-key-first [] (y ∷ b) xs ys e = let h : 0 ≡ y + 1 = cc in absurd (omega (arith, h))
-key-first (x ∷ a) [] xs ys e = let h : x + 1 ≡ 0 = cc in absurd (omega (arith, h))
-key-first (x ∷ a) (y ∷ b) xs ys e =
-    let h : x + 1 ≡ y + 1 = cc in
-    let one : x ≡ y = omega (arith, h) in
-    let t : map (λ n. n + 1) a ++ 0 ∷ xs ≡ map (λ n. n + 1) b ++ 0 ∷ ys = cc in
-    let r = key-first a b xs ys t in
-    (ap (λ n. n ∷ a) one ∙ ap (λ l. y ∷ l) r.0, r.1)
+  -- The reason that names give is that of where they stop in the same types.
+  pub same-reason : (names : List Name) (xs ys : List ℕ) (stop : ℕ) → Same xs ys → types_stop S xs names ≡ stop → stop_reason stop ≡ types_reason S ys names
+  same-reason names xs ys stop same is = ap stop_reason (sym is ∙ types-same names xs ys same) ∙ types-reason names ys
 
-key-none : (name : Name) (xs : List ℕ) → [] ≡ key_of_name name ++ xs → ⊥
-key-none [] xs e = absurd (cc)
-key-none (b ∷ name) xs e = absurd (cc)
+  -- a name in types, by their tables
+  module _ (tables : List Table) (insides : AreInsides S tables) (name : Name) (ks : List ℕ) where
+    found : List Meaning
+    found = flat_map (lead S name) ks
 
-key-same : (xs ys : List Name) → key_of xs ≡ key_of ys → xs ≡ ys
-key-same [] [] e = refl
-key-same [] (y ∷ ys) e = absurd (key-none y (key_of ys) e)
-key-same (x ∷ xs) [] e = absurd (key-none x (key_of xs) (sym e))
-key-same (x ∷ xs) (y ∷ ys) e =
-    let r = key-first x y (key_of xs) (key_of ys)
-    (sym (append_assoc (map (λ n. n + 1) x) (0 ∷ []) (key_of xs)) ∙ e ∙ append_assoc (map (λ n. n + 1) y) (0 ∷ []) (key_of ys)) in
-    ap (λ n. n ∷ xs) r.0 ∙ ap (λ l. y ∷ l) (key-same xs ys r.1)
+    pub type-lacks : (names : List Name) → is_lacking tables name ks ≡ true → types_stop S ks (name ∷ names) ≡ 2 * length (name ∷ names)
+    type-lacks names some =
+        ap (λ b. cond b (2 * suc (length names)) (rest_stop S (flat_map (lead S name) ks) names)) (sym (held-lacks S name tables insides ks) ∙ some)
 
--- marks of what was found of types under names
-pub marks-more : (S : Schema) (old new : Table) (first : List ℕ) (names : List Name) (types : List ℕ) (stop : ℕ) → HasMarks S old → types_stop S types names ≡ stop
-    → ((other under ts : List ℕ) (n : ℕ) → IsFound (kinds new other) under ts n
-    → IsFound (kinds old other) under ts n ⊎ ((other ≡ first) × (under ≡ key_of names) × (ts ≡ types) × (n ≡ stop)))
-    → HasMarks S new
-marks-more S old new first names types stop marks is says = λ other rest ts n found. elim (says other (key_of rest) ts n found) [
-  | inl h ↦ marks other rest ts n h
-  | inr h ↦ ap (λ l. types_stop S ts l) (key-same rest names h.1) ∙ ap (λ l. types_stop S l names) h.2 ∙ is ∙ sym h.3
-]
+    module _ (numbers inner : Bool) (within : List ℕ) (is : Means tables name ks numbers inner within) where
+      has : (names : List Name) → types_stop S ks (name ∷ names) ≡ rest_stop S found names
+      unfolding found
+      has names = ap (λ b. cond b (2 * suc (length names)) (rest_stop S (flat_map (lead S name) ks) names)) (sym (held-lacks S name tables insides ks) ∙ is.found)
 
--- a line of no fields
-pub IsLine-none : (S : Schema) (table : Table) → ((name : List ℕ) → held table name ≡ []) → ((name key types : List ℕ) (stop : ℕ) → IsFound (kinds table name) key types stop → ⊥) → IsLine S [] table
-IsLine-none S table none unmarked = record { names = none; marks = λ name names types stop is. absurd (unmarked name (key_of names) types stop is) }
+      shapes : shapes_in tables name ks ≡ map (shape S) found
+      unfolding found
+      shapes = held-leads S name tables insides ks
+
+      go : inner ≡ list_all (goes_on S) found
+      go = is.all_inner ∙ ap (list_all (λ s. is_some s.inner)) shapes ∙ go-on S found
+
+      pub type-ends : types_stop S ks (name ∷ []) ≡ cond numbers 0 1
+      type-ends = has [] ∙ sym (ap (λ b. cond b 0 1) (is.all_numbers ∙ ap (list_all (λ s. s.number)) shapes ∙ all-end S found))
+
+      pub type-stops : (other : Name) (names : List Name) → inner ≡ false → types_stop S ks (name ∷ other ∷ names) ≡ 2 * length (other ∷ names) + 1
+      type-stops other names none = has (other ∷ names)
+          ∙ ap (λ a. cond a (cond (list_any (λ m. is_empty (inside S other m)) found) (2 * suc (length names)) (rest_stop S (flat_map (inside S other) found) names)) (2 * suc (length names) + 1)) (sym go ∙ none)
+
+      pub type-goes : (other : Name) (names : List Name) → inner ≡ true → types_stop S ks (name ∷ other ∷ names) ≡ types_stop S within (other ∷ names)
+      type-goes other names all = has (other ∷ names) ∙ to-stops found other names (sym go ∙ all)
+          ∙ types-same (other ∷ names) (inners (map (shape S) found)) within
+          (λ k. let same = is.same_types k in (
+            λ h. same.1 (subst (λ l. Contains (inners l) k) (sym shapes) h),
+            λ h. subst (λ l. Contains (inners l) k) shapes (same.0 h),
+          ))
+
+  -- What is known by the tables of a schema doesn't depend on which tables these are.
+  module _ (tables others : List Table) (insides : AreInsides S tables) (besides : AreInsides S others) where
+    lacks-same : (name : Name) (ks : List ℕ) → is_lacking others name ks ≡ is_lacking tables name ks
+    lacks-same name ks = held-lacks S name others besides ks ∙ sym (held-lacks S name tables insides ks)
+
+    shapes-same : (name : Name) (ks : List ℕ) → shapes_in tables name ks ≡ shapes_in others name ks
+    shapes-same name ks = held-leads S name tables insides ks ∙ sym (held-leads S name others besides ks)
+
+    pub known-same : (sets : Sets) → AreKnown tables sets → AreKnown others sets
+    known-same sets all = λ known is. by known.set known.name known.answer (all known is)
+      where
+        by : (set : TypeSet) (name : Name) (answer : Option Inside) → IsInside tables sets set name answer → IsInside others sets set name answer
+        by set name None some = lacks-same name (types_of sets set) ∙ some
+        by set name (Some within) is =
+            let ks = types_of sets set in
+            let one = shapes-same name ks in
+            record {
+              found = lacks-same name ks ∙ is.found;
+              all_numbers = is.all_numbers ∙ ap (list_all (λ s. s.number)) one;
+              all_inner = is.all_inner ∙ ap (list_all (λ s. is_some s.inner)) one;
+              same_types = λ k. subst (λ l. Contains (types_of sets within.set) k ↔ Contains (inners l) k) one (is.same_types k);
+            }

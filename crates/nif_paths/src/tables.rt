@@ -1,9 +1,10 @@
 //! Tables of the names of fields.
 ghost use Rattle.std.specs.Prelude.{◌≡◌, ℕ, ◌<◌, List, [], ◌∷◌, ◌++◌, map, length, OnOk, IfOk};
+ghost use Rattle.nif_names.specs.Marks.{IsFound};
+ghost use Rattle.nif_names.specs.Tables.{kinds};
 ghost use Rattle.nif_schema.specs.Declaration as plain;
 ghost use Rattle.nif_schema.specs.Declaration.{field};
 ghost use Rattle.nif_schema.specs.declared.members.BitMember.{BitMember};
-ghost use Rattle.nif_paths.specs.Marks.{HasMarks};
 ghost use Rattle.nif_paths.specs.Shaped.{AreMarks, AreInsides, HasFields, HasInside, HasBits};
 
 use crate::shapes::field_shape;
@@ -13,7 +14,7 @@ use nif_schema::{BitMembers, Field, Fields, Schema, What};
 use std::alloc::Global;
 
 /// Puts a field behind the others.
-pub fn push_field(
+pub(crate) fn push_field(
     schema: &Schema,
     generic: &[bool],
     names: &mut Names,
@@ -21,15 +22,15 @@ pub fn push_field(
 ) -> Result<(), NoMemory>
     requires { AreMarks schema.now generic.now }
     ensures fields { OnOk result ((fields : List plain.Field) → HasFields schema.now fields names.old → HasFields schema.now (fields ++ field of.now ∷ []) names.new) }
-    ensures marks { OnOk result (HasMarks schema.now names.old → HasMarks schema.now names.new) }
+    ensures kept { OnOk result ((other key types : List ℕ) (stop : ℕ) → IsFound (kinds names.new other) key types stop → IsFound (kinds names.old other) key types stop) }
 {
     names.push(of.name.bytes(), field_shape(schema, generic, of))
 }
 
 /// Takes the last field off.
-pub fn pop_field(schema: &Schema, names: &mut Names, of: &Field)
+pub(crate) fn pop_field(schema: &Schema, names: &mut Names, of: &Field)
     ensures fields { (fields : List plain.Field) → HasFields schema.now (fields ++ field of.now ∷ []) names.old → HasFields schema.now fields names.new }
-    ensures marks { HasMarks schema.now names.old → HasMarks schema.now names.new }
+    ensures kept { (other key types : List ℕ) (stop : ℕ) → IsFound (kinds names.new other) key types stop → IsFound (kinds names.old other) key types stop }
 {
     names.pop(of.name.bytes());
 }

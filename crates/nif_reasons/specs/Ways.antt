@@ -3,10 +3,10 @@ use Rattle.std.specs.Prelude.{ℕ, ◌≡◌, ◌<◌, List, [], ◌∷◌, leng
 use Rattle.std.specs.Option.{option_map_or}
 use Rattle.nif_schema.specs.Uses.{is_struct}
 use Rattle.std.specs.declared.option.Option.{Option}
-use Rattle.nif_names.specs.Tables.{Table}
 use Rattle.nif_schema.specs.Declaration.{Field}
 use Rattle.nif_schema.specs.Schema.{Schema, parent, fields_of}
 use Rattle.nif_paths.specs.Marks.{IsLine}
+use Rattle.nif_paths.specs.declared.lines.Line.{Line}
 
 -- each is the child of the one before it, the first that of `above`
 abbrev pub IsWayFrom : Schema → Option ℕ → List ℕ → Type 0
@@ -21,10 +21,10 @@ last_or above (n ∷ ns) = last_or (Some n) ns
 abbrev pub fields_on : Schema → List ℕ → List Field
 fields_on schema way = flat_map (fields_of schema) way
 
--- a way from a root, with a table of the fields on it
-pub record IsAt (schema : Schema) (stack : List ℕ) (names : Table) : Type 0 where
+-- a way from a root, with a line of the fields on it
+pub record IsAt (schema : Schema) (stack : List ℕ) (fields : Line) : Type 0 where
   pub way : IsWayFrom schema None stack
-  pub line : IsLine schema (fields_on schema stack) names
+  pub line : IsLine schema (fields_on schema stack) fields
 
 -- whether a struct has this number
 abbrev pub has_struct : Schema → ℕ → Bool

@@ -11,6 +11,7 @@ ghost use Rattle.nif_paths.specs.Shaped.{AreMarks, AreInsides};
 use crate::formulas::{formula_reason, width_reason};
 use nif_base::{NoMemory, Word};
 use nif_names::Names;
+use nif_paths::Line;
 use nif_schema::{Bound, Closed, Exact, Field, Leaf, Schema, What};
 use nif_uses::{is_own_template, named};
 use std::alloc::Global;
@@ -171,7 +172,7 @@ fn plain_reason(schema: &Schema, generic: &[bool], in_struct: bool, of: &Field) 
 fn condition_reason(
     alloc: Global,
     tables: &[Names],
-    line: &mut Names,
+    line: &mut Line,
     of: &Field,
 ) -> Result<Option<Closed>, NoMemory>
     ensures { IfOk result (Gives (λ schema fields. condition_reason schema fields (field of.now)) tables.now line.old line.new) }
@@ -187,7 +188,7 @@ fn condition_reason(
 fn size_reason(
     alloc: Global,
     tables: &[Names],
-    line: &mut Names,
+    line: &mut Line,
     of: &Field,
 ) -> Result<Option<Closed>, NoMemory>
     ensures { IfOk result (Gives (λ schema fields. size_reason schema fields (field of.now)) tables.now line.old line.new) }
@@ -214,7 +215,7 @@ pub fn field_reason(
     generic: &[bool],
     in_struct: bool,
     tables: &[Names],
-    line: &mut Names,
+    line: &mut Line,
     of: &Field,
 ) -> Result<Option<Closed>, NoMemory>
     requires marks { AreMarks schema.now generic.now }

@@ -12,7 +12,7 @@ ghost use Rattle.nif_paths.specs.Marks.{Gives};
 
 use nif_base::{NoMemory, Word};
 use nif_names::{Names, Shapes};
-use nif_paths::path_reason;
+use nif_paths::{Line, path_reason};
 use nif_schema::{Closed, Expr, Formula, Path};
 use std::alloc::Global;
 
@@ -20,7 +20,7 @@ use std::alloc::Global;
 fn expr_reason(
     alloc: Global,
     tables: &[Names],
-    line: &mut Names,
+    line: &mut Line,
     expr: &Expr,
 ) -> Result<Option<Closed>, NoMemory>
     ensures { IfOk result (Gives (λ schema fields. spec.first_reason (map (path_reason schema fields) (paths_of (tree expr.now)))) tables.now line.old line.new) }
@@ -42,7 +42,7 @@ fn expr_reason(
 pub fn formula_reason(
     alloc: Global,
     tables: &[Names],
-    line: &mut Names,
+    line: &mut Line,
     of: &Option<Formula>,
 ) -> Result<Option<Closed>, NoMemory>
     ensures { IfOk result (Gives (λ schema fields. spec.formula_reason schema fields (option_map formula of.now)) tables.now line.old line.new) }
@@ -100,7 +100,7 @@ fn only_name(path: &Path) -> Option<&Word>
 pub fn width_reason(
     alloc: Global,
     tables: &[Names],
-    line: &mut Names,
+    line: &mut Line,
     width: &Option<Formula>,
 ) -> Result<Option<Closed>, NoMemory>
     ensures { IfOk result (Gives (λ schema fields. spec.width_reason schema fields (option_map formula width.now)) tables.now line.old line.new) }

@@ -13,7 +13,7 @@ use crate::visits::visits;
 use crate::ways::{Way, own_fields_reason};
 use nif_base::NoMemory;
 use nif_names::Names;
-use nif_paths::{inside_tables, storage_width};
+use nif_paths::{Line, inside_tables, storage_width};
 use nif_schema::{BitMember, BitMembers, Closed, Leaf, Schema, What};
 use nif_uses::generic_structs;
 use std::alloc::Global;
@@ -95,9 +95,9 @@ fn own_reason(
     requires marks { AreMarks schema.now generic.now }
     requires insides { AreInsides schema.now tables.now }
     requires jumps { AreJumps schema.now (length schema.now) jumps.now }
-    requires at { IsAt schema.now way.old.stack.items way.old.names }
+    requires at { IsAt schema.now way.old.stack.items way.old.line }
     requires within { number < length schema.now }
-    ensures at { IfOk result (λ reason. IsAt schema.now way.new.stack.items way.new.names) }
+    ensures at { IfOk result (λ reason. IsAt schema.now way.new.stack.items way.new.line) }
     ensures reason { IfOk result (λ reason. reason ≡ spec.own_reason schema.now number) }
 {
     let early = early_reason(schema, jumps, number);
@@ -138,8 +138,8 @@ fn found_in_order(
     requires marks { AreMarks schema.now generic.now }
     requires insides { AreInsides schema.now tables.now }
     requires jumps { AreJumps schema.now (length schema.now) jumps.now }
-    requires at { IsAt schema.now way.old.stack.items way.old.names }
-    ensures at { IfOk result (λ found. IsAt schema.now way.new.stack.items way.new.names) }
+    requires at { IsAt schema.now way.old.stack.items way.old.line }
+    ensures at { IfOk result (λ found. IsAt schema.now way.new.stack.items way.new.line) }
     ensures found { IfOk result (λ found. AreFound schema.now found.items) }
 {
     let mut found = match nothing_found(alloc, schema) {
@@ -174,10 +174,10 @@ fn found_or_own(
     requires marks { AreMarks schema.now generic.now }
     requires insides { AreInsides schema.now tables.now }
     requires jumps { AreJumps schema.now (length schema.now) jumps.now }
-    requires at { IsAt schema.now way.old.stack.items way.old.names }
+    requires at { IsAt schema.now way.old.stack.items way.old.line }
     requires within { number < length schema.now }
     requires found { IfSome found (λ f. f.reason ≡ spec.own_reason schema.now number) }
-    ensures at { IfOk result (λ reason. IsAt schema.now way.new.stack.items way.new.names) }
+    ensures at { IfOk result (λ reason. IsAt schema.now way.new.stack.items way.new.line) }
     ensures reason { IfOk result (λ reason. reason ≡ spec.own_reason schema.now number) }
 {
     match found {
@@ -203,7 +203,7 @@ fn all_reasons(
 {
     let mut way = Way {
         stack: Vec::new(alloc),
-        names: Names::new(alloc),
+        line: Line::new(alloc),
     };
     let found = match found_in_order(alloc, schema, generic, tables, jumps, &mut way, order) {
         Ok(found) => found,
@@ -227,8 +227,8 @@ fn all_reasons(
 
 /// For each declaration, in order, its own reason: the first that closes it, whatever the types that it uses; or
 /// nothing. It takes near-linear time in declarations, fields and expressions, and in what paths of several names
-/// look at: on a line, each different rest of a path looks once at each type of its first name, and for the names
-/// after it at the different types that they lead to.
+/// look at: on a line, each different second name of a path looks once at each type of its first name; for more names,
+/// each different name looks once at each set of types that paths lead to.
 pub fn own_reasons(alloc: Global, schema: &Schema) -> Result<Vec<Option<Closed>>, NoMemory>
     ensures count { IfOk result (λ reasons. length reasons.items ≡ length schema.now) }
     ensures each { IfOk result (λ reasons. (number : ℕ) → number < length schema.now → slice_get reasons.items number ≡ Some (spec.own_reason schema.now number)) }

@@ -1,5 +1,5 @@
 //! Ways from a root down to a type, with a table of the fields on them.
-ghost use Rattle.std.specs.Prelude.{◌≡◌, ℕ, ◌<◌, List, [], ◌∷◌, ◌++◌, map, length, IfOk, None, ◌⊎◌, IsTrue};
+ghost use Rattle.std.specs.Prelude.{◌≡◌, ℕ, ◌<◌, List, [], ◌∷◌, ◌++◌, map, length, IfOk, OnOk, None, ◌⊎◌, IsTrue};
 ghost use Rattle.nif_schema.specs.Uses.{is_struct};
 ghost use Rattle.nif_schema.specs.Declaration as plain;
 ghost use Rattle.nif_schema.specs.Declaration.{field};
@@ -12,15 +12,15 @@ ghost use Rattle.nif_reasons.specs.Ways.{IsAt, last_or, fields_on, has_struct};
 use crate::fields::field_reason;
 use nif_base::NoMemory;
 use nif_names::Names;
-use nif_paths::{pop_field, push_field};
+use nif_paths::Line;
 use nif_schema::{Closed, Field, Fields, Schema, What};
 use std::alloc::Global;
 
-/// A way from a root down to a type, with the names of the fields on it.
+/// A way from a root down to a type, with a line of the fields on it.
 #[derive(Drop)]
 pub struct Way {
     pub stack: Vec<u32>,
-    pub names: Names,
+    pub line: Line,
 }
 
 /// The first of a reason so far and that of a field.
@@ -30,7 +30,7 @@ fn next_reason(
     generic: &[bool],
     in_struct: bool,
     tables: &[Names],
-    line: &mut Names,
+    line: &mut Line,
     so_far: Option<Closed>,
     of: &Field,
 ) -> Result<Option<Closed>, NoMemory>
@@ -51,7 +51,7 @@ fn add_fields(
     generic: &[bool],
     in_struct: bool,
     tables: &[Names],
-    line: &mut Names,
+    line: &mut Line,
     fields: &Fields,
 ) -> Result<Option<Closed>, NoMemory>
     requires marks { AreMarks schema.now generic.now }
@@ -65,7 +65,7 @@ fn add_fields(
             Ok(reason) => reason,
             Err(fault) => return Err(fault),
         };
-        let Ok(()) = push_field(schema, generic, line, of) else {
+        let Ok(()) = line.push(schema, generic, of) else {
             return Err(NoMemory);
         };
     }
@@ -73,13 +73,13 @@ fn add_fields(
 }
 
 /// Takes fields off the end of a line.
-fn drop_fields(schema: &Schema, line: &mut Names, fields: &Fields)
+fn drop_fields(schema: &Schema, line: &mut Line, fields: &Fields)
     ensures { (earlier : List plain.Field) → IsLine schema.now (earlier ++ map field fields.now) line.old → IsLine schema.now earlier line.new }
 {
     let mut left = fields.len();
     while left > 0 {
         left -= 1;
-        pop_field(schema, line, fields.get(left));
+        line.pop(schema, fields.get(left));
     }
 }
 
@@ -94,10 +94,10 @@ fn enter(
 ) -> Result<Option<Closed>, NoMemory>
     requires marks { AreMarks schema.now generic.now }
     requires insides { AreInsides schema.now tables.now }
-    requires at { IsAt schema.now way.old.stack.items way.old.names }
+    requires at { IsAt schema.now way.old.stack.items way.old.line }
     requires within { number < length schema.now }
     requires child { parent schema.now number ≡ last_or None way.old.stack.items }
-    ensures at { IfOk result (λ reason. IsAt schema.now way.new.stack.items way.new.names) }
+    ensures at { IfOk result (λ reason. IsAt schema.now way.new.stack.items way.new.line) }
     ensures way { IfOk result (λ reason. way.new.stack.items ≡ way.old.stack.items ++ number ∷ []) }
     ensures reason { IfOk result (λ reason. reason ≡ spec.fields_reason schema.now (has_struct schema.now number) (fields_on schema.now way.old.stack.items) (fields_of schema.now number)) }
 {
@@ -109,7 +109,7 @@ fn enter(
         generic,
         in_struct,
         tables,
-        &mut way.names,
+        &mut way.line,
         &decl.fields,
     ) {
         Ok(reason) => reason,
@@ -129,14 +129,14 @@ fn is_struct(what: &What) -> bool
 
 /// Goes up from the last type of a way that isn't empty.
 fn leave(schema: &Schema, way: &mut Way)
-    requires { IsAt schema.now way.old.stack.items way.old.names }
-    ensures at { IsAt schema.now way.new.stack.items way.new.names }
+    requires { IsAt schema.now way.old.stack.items way.old.line }
+    ensures at { IsAt schema.now way.new.stack.items way.new.line }
     ensures shorter { length way.old.stack.items ≡ 0 ⊎ (length way.new.stack.items < length way.old.stack.items) }
 {
     let Some(number) = way.stack.pop() else {
         return;
     };
-    drop_fields(schema, &mut way.names, &schema.decl(number).fields);
+    drop_fields(schema, &mut way.line, &schema.decl(number).fields);
 }
 
 /// Whether a way ends in this type, or is empty where there is none.
@@ -152,10 +152,10 @@ fn is_last(way: &Way, parent: Option<u32>) -> bool
     }
 }
 
-/// Goes up until a way ends in this type, or to its start.
-fn back_to(schema: &Schema, way: &mut Way, parent: Option<u32>)
-    requires { IsAt schema.now way.old.stack.items way.old.names }
-    ensures { IsAt schema.now way.new.stack.items way.new.names }
+/// Goes up until a way ends in this type, or to its start, where its line begins anew.
+fn back_to(alloc: Global, schema: &Schema, way: &mut Way, parent: Option<u32>)
+    requires { IsAt schema.now way.old.stack.items way.old.line }
+    ensures { IsAt schema.now way.new.stack.items way.new.line }
 {
     while way.stack.len() > 0 {
         if is_last(way, parent) {
@@ -163,30 +163,67 @@ fn back_to(schema: &Schema, way: &mut Way, parent: Option<u32>)
         }
         leave(schema, way);
     }
+    way.line.clear(alloc);
 }
 
-/// A table of the fields above a type.
-fn line_above(
-    alloc: Global,
+/// Puts the fields above a type on a line that has none.
+fn add_above(
     schema: &Schema,
     generic: &[bool],
+    line: &mut Line,
     number: u32,
-) -> Result<Names, NoMemory>
+) -> Result<(), NoMemory>
     requires marks { AreMarks schema.now generic.now }
     requires within { number < length schema.now }
     requires ends { ancestor schema.now (length schema.now) number ≡ None }
-    ensures { IfOk result (IsLine schema.now (spec.line_above schema.now number)) }
+    requires line { IsLine schema.now [] line.old }
+    ensures { OnOk result (IsLine schema.now (spec.line_above schema.now number) line.new) }
 {
-    let mut line = Names::new(alloc);
     let Some(parent) = schema.parent(number) else {
-        return Ok(line);
+        return Ok(());
     };
     for of in schema.line_of(parent) {
-        let Ok(()) = push_field(schema, generic, &mut line, of) else {
+        let Ok(()) = line.push(schema, generic, of) else {
             return Err(NoMemory);
         };
     }
-    Ok(line)
+    Ok(())
+}
+
+/// The first reason that an own field of a type gives, which isn't entered: a line for it alone is made, and cleared.
+fn lone_reason(
+    alloc: Global,
+    schema: &Schema,
+    generic: &[bool],
+    tables: &[Names],
+    line: &mut Line,
+    number: u32,
+) -> Result<Option<Closed>, NoMemory>
+    requires marks { AreMarks schema.now generic.now }
+    requires insides { AreInsides schema.now tables.now }
+    requires line { (fields : List plain.Field) × IsLine schema.now fields line.old }
+    requires within { number < length schema.now }
+    requires ends { ancestor schema.now (length schema.now) number ≡ None }
+    ensures line { IfOk result (λ reason. IsLine schema.now [] line.new) }
+    ensures reason { IfOk result (λ reason. reason ≡ spec.fields_reason schema.now (has_struct schema.now number) (spec.line_above schema.now number) (fields_of schema.now number)) }
+{
+    line.clear(alloc);
+    let Ok(()) = add_above(schema, generic, line, number) else {
+        return Err(NoMemory);
+    };
+    let decl = schema.decl(number);
+    let in_struct = is_struct(&decl.what);
+    let reason = add_fields(
+        alloc,
+        schema,
+        generic,
+        in_struct,
+        tables,
+        line,
+        &decl.fields,
+    );
+    line.clear(alloc);
+    reason
 }
 
 /// The first reason that an own field of a type gives. It goes from one type to the next along the parents: a type
@@ -201,29 +238,17 @@ pub fn own_fields_reason(
 ) -> Result<Option<Closed>, NoMemory>
     requires marks { AreMarks schema.now generic.now }
     requires insides { AreInsides schema.now tables.now }
-    requires at { IsAt schema.now way.old.stack.items way.old.names }
+    requires at { IsAt schema.now way.old.stack.items way.old.line }
     requires within { number < length schema.now }
     requires ends { ancestor schema.now (length schema.now) number ≡ None }
-    ensures at { IfOk result (λ reason. IsAt schema.now way.new.stack.items way.new.names) }
+    ensures at { IfOk result (λ reason. IsAt schema.now way.new.stack.items way.new.line) }
     ensures reason { IfOk result (λ reason. reason ≡ spec.fields_reason schema.now (has_struct schema.now number) (spec.line_above schema.now number) (fields_of schema.now number)) }
 {
     let parent = schema.parent(number);
-    back_to(schema, way, parent);
+    back_to(alloc, schema, way, parent);
     if is_last(way, parent) {
         return enter(alloc, schema, generic, tables, way, number);
     }
-    let mut line = match line_above(alloc, schema, generic, number) {
-        Ok(line) => line,
-        Err(fault) => return Err(fault),
-    };
-    let decl = schema.decl(number);
-    add_fields(
-        alloc,
-        schema,
-        generic,
-        is_struct(&decl.what),
-        tables,
-        &mut line,
-        &decl.fields,
-    )
+    way.stack.clear();
+    lone_reason(alloc, schema, generic, tables, &mut way.line, number)
 }

@@ -14,7 +14,7 @@ pub returns-in-Some-look : goal.returns-in-Some-look
 returns-in-Some-look c = λ schema fields insides line. (
   c.bare_width_reason.ensures
       ∙ width-there schema fields (option_map formula c.args.width.now) c.in-Some.name.now c.in-Some-look.shapes.now.shapes (sym c.in-Some.ensures)
-      (c.in-Some-look.ensures.value ∙ ap (held c.args.line.now) c.bytes.ensures ∙ line.names c.in-Some.name.now) c.in-Some-look.ensures.some,
+      (c.in-Some-look.ensures.value ∙ ap (held c.args.line.now.names) c.bytes.ensures ∙ line.names c.in-Some.name.now) c.in-Some-look.ensures.some,
   line,
 )
 
@@ -23,6 +23,6 @@ returns-in-None c = on c.formula_reason-in-None.result c.formula_reason-in-None.
     let r = says schema fields insides line in (
       r.0
           ∙ width-absent schema fields (option_map formula c.args.width.now) c.in-Some.name.now (sym c.in-Some.ensures)
-          (sym (line.names c.in-Some.name.now) ∙ ap (held c.args.line.now) (sym c.bytes.ensures) ∙ sym c.in-None.ensures.value),
+          (sym (line.names c.in-Some.name.now) ∙ ap (held c.args.line.now.names) (sym c.bytes.ensures) ∙ sym c.in-None.ensures.value),
       r.1,
     ))

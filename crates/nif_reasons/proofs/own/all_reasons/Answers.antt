@@ -4,7 +4,6 @@ use Rattle.std.proofs.lemmas.Option.{slice_get-get_or}
 use Rattle.nif_schema.specs.Reasons.{own_reason}
 use Rattle.nif_reasons.specs.Ways.{IsAt}
 use Rattle.nif_reasons.proofs.Lists.{below-push}
-use Rattle.nif_paths.proofs.StopLemmas.{IsLine-none}
 use Rattle.nif_reasons.proofs.own.all_reasons.Goals as goal
 
 if_some : {X : Type 0} {P : X → Type 0} (o : Option X) → ((x : X) → o ≡ Some x → P x) → IfSome o P
@@ -36,5 +35,4 @@ loop-number-preserved c =
 pub found_in_order-requires-clause-at : goal.found_in_order-requires-clause-at
 found_in_order-requires-clause-at c =
     let S = c.args.schema.now in
-    subst (λ l. IsAt S l c.new-2.result) (sym c.new.ensures.items)
-    (record { way = tt; line = IsLine-none S c.new-2.result c.new-2.ensures.shapes c.new-2.ensures.marks })
+    subst (λ l. IsAt S l c.new-2.result) (sym c.new.ensures.items) (record { way = tt; line = c.new-2.ensures S })

@@ -7,4 +7,4 @@ abbrev pub invariant-loop-number : goal.invariant-loop-number
 invariant-loop-number l =
     (length l.reasons.items ≡ l.number)
     × ((k : ℕ) → k < l.number → slice_get l.reasons.items k ≡ Some (own_reason l.schema k))
-    × IsAt l.schema l.way.stack.items l.way.names
+    × IsAt l.schema l.way.stack.items l.way.line

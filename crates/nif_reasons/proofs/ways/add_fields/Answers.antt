@@ -23,7 +23,7 @@ loop-place-preserved c = λ earlier has.
     let longer : done ++ f ∷ [] ≡ earlier ++ map field (take (place + 1) fs) =
     append_assoc earlier (map field (take place fs)) (f ∷ [])
     ∙ sym (ap (λ l. earlier ++ l) (ap (map field) (take-next fs place kept c.get-of.ensures) ∙ map-append field (take place fs) (kept ∷ []))) in (
-      subst (λ l. IsLine S l c.push_field.new.names) longer (record { names = c.in-Ok-push_field.ensures.fields done r.1.names; marks = c.in-Ok-push_field.ensures.marks r.1.marks }),
+      subst (λ l. IsLine S l c.push.new.self) longer (c.in-Ok-push.ensures done r.1),
       i.1
           ∙ ap (λ l. first_reason (c.loop-place.reason ∷ fields_reason S s done l ∷ [])) (ap (map field) (drop-next fs place kept c.get-of.ensures))
           ∙ first-moved c.loop-place.reason (field_reason S s done f) (fields_reason S s (done ++ f ∷ []) rest)

@@ -20,8 +20,7 @@ loop-left-preserved c =
           let longer : earlier ++ map field (take left fs) ≡ before ++ field kept ∷ [] =
           ap (λ l. earlier ++ l) (ap (λ n. map field (take n fs)) (sym one) ∙ ap (map field) (take-next fs (left - 1) kept c.get.ensures) ∙ map-append field (take (left - 1) fs) (kept ∷ []))
           ∙ sym (append_assoc earlier (map field (take (left - 1) fs)) (field kept ∷ [])) in
-          let line = subst (λ l. IsLine S l c.loop-left.line) longer (c.loop-left.invariant.1 earlier has) in
-          record { names = c.pop_field.ensures.fields before line.names; marks = c.pop_field.ensures.marks line.marks },
+          c.pop.ensures before (subst (λ l. IsLine S l c.loop-left.line) longer (c.loop-left.invariant.1 earlier has)),
     )
 
 pub returns : goal.returns

@@ -21,5 +21,5 @@ returns-clause-at c =
     record {
       way = (way-pop S None rest n (subst (IsWayFrom S None) whole c.requires.way)).0;
       line = c.drop_fields.ensures (fields_on S rest)
-          (subst (λ l. IsLine S l c.args.way.now.names) (ap (fields_on S) whole ∙ fields-push S rest n ∙ ap (λ l. fields_on S rest ++ l) own) c.requires.line);
+          (subst (λ l. IsLine S l c.args.way.now.line) (ap (fields_on S) whole ∙ fields-push S rest n ∙ ap (λ l. fields_on S rest ++ l) own) c.requires.line);
     }
