@@ -1,4 +1,3 @@
-mod AlikeLemmas
 pub mod MarkLemmas
 pub mod ShapeLemmas
 pub mod TableLemmas

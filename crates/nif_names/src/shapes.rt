@@ -1,7 +1,7 @@
 //! Stacks of shapes.
 ghost use Rattle.std.specs.Prelude.{◌≡◌, ◌≢◌, ℕ, ◌-◌, ◌≤◌, ◌⊎◌, List, [], ◌∷◌, ◌++◌, length, take, map, OnOk, OnErr, Contains, ◌↔◌, is_some, IfSome, IsTrue, Some};
 ghost use Rattle.std.specs.List.{list_all};
-ghost use Rattle.nif_names.specs.Shapes.{inners, shape_of, Alike};
+ghost use Rattle.nif_names.specs.Shapes.{inners};
 ghost use Rattle.nif_names.specs.Kept.{new_inner};
 ghost use Rattle.nif_names.specs.Marks.{IsFound, none_marked};
 
@@ -226,41 +226,5 @@ impl Shapes {
         self.not_numbers -= usize::from(!entry.shape.number);
         self.not_rows -= usize::from(!entry.shape.row);
         self.not_inner -= usize::from(entry.shape.inner.is_none());
-    }
-
-    /// Puts shapes on top that are like those of another stack, as few as its different inner types and one more.
-    pub fn add_all(&mut self, of: &Shapes) -> Result<(), NoMemory>
-        requires { of.now.shapes ≢ [] }
-        ensures { OnOk result (Alike self.new.shapes (self.old.shapes ++ of.now.shapes)) }
-    {
-        let number = of.all_numbers();
-        let row = of.all_rows();
-        if of.all_inner() {
-            return self.add_inners(number, row, of.inners());
-        }
-        let Ok(()) = self.push(Shape {
-            number,
-            row,
-            inner: None,
-        }) else {
-            return Err(NoMemory);
-        };
-        self.add_inners(number, row, of.inners())
-    }
-
-    /// Puts a shape on top for each of these inner types.
-    fn add_inners(&mut self, number: bool, row: bool, inners: &[u32]) -> Result<(), NoMemory>
-        ensures { OnOk result (self.new.shapes ≡ self.old.shapes ++ map (λ inner. shape_of number row (Some inner)) inners.now) }
-    {
-        for inner in inners {
-            let Ok(()) = self.push(Shape {
-                number,
-                row,
-                inner: Some(*inner),
-            }) else {
-                return Err(NoMemory);
-            };
-        }
-        Ok(())
     }
 }
