@@ -41,7 +41,7 @@ fn last_reason<R: Abort + AllocGlobal>(rt: &R, text: &[u8]) -> Result<u8, AllocE
     }
 }
 
-const ROWS: [(&[u8], u8); 80] = [
+const ROWS: [(&[u8], u8); 86] = [
     // C1 unknown type
     (
         b"<niftoolsxml><basic name='uint'/><basic name='byte'/><basic name='bool'/><basic name='float'/><basic name='Ref'/><struct name='T'><field name='A' type='none'/></struct></niftoolsxml>",
@@ -440,6 +440,36 @@ const ROWS: [(&[u8], u8); 80] = [
     // C6 of the last of several types
     (
         b"<niftoolsxml><basic name='uint'/><basic name='byte'/><basic name='bool'/><basic name='float'/><basic name='Ref'/><struct name='S'><field name='X' type='uint'/></struct><struct name='U'><field name='X' type='uint'/><field name='Y' type='uint'/></struct><struct name='V'><field name='X' type='byte'/></struct><struct name='W'><field name='X' type='float'/></struct><niobject name='P'><field name='F' type='S'/><field name='F' type='U'/><field name='F' type='V'/><field name='F' type='W'/></niobject><niobject name='T' inherit='P'><field name='A' type='uint' cond='F\\X'/></niobject></niftoolsxml>",
+        6,
+    ),
+    // three names
+    (
+        b"<niftoolsxml><basic name='uint'/><basic name='byte'/><basic name='bool'/><basic name='float'/><basic name='Ref'/><struct name='V'><field name='V' type='V'/><field name='N' type='uint'/><field name='D' type='float'/></struct><struct name='T'><field name='V' type='V'/><field name='A' type='uint' cond='V\\V\\N'/></struct></niftoolsxml>",
+        99,
+    ),
+    // C6 number before a third name
+    (
+        b"<niftoolsxml><basic name='uint'/><basic name='byte'/><basic name='bool'/><basic name='float'/><basic name='Ref'/><struct name='V'><field name='V' type='V'/><field name='N' type='uint'/><field name='D' type='float'/></struct><struct name='T'><field name='V' type='V'/><field name='A' type='uint' cond='V\\N\\V'/></struct></niftoolsxml>",
+        6,
+    ),
+    // forty names
+    (
+        b"<niftoolsxml><basic name='uint'/><basic name='byte'/><basic name='bool'/><basic name='float'/><basic name='Ref'/><struct name='V'><field name='V' type='V'/><field name='N' type='uint'/><field name='D' type='float'/></struct><struct name='T'><field name='V' type='V'/><field name='A' type='uint' cond='V\\V\\V\\V\\V\\V\\V\\V\\V\\V\\V\\V\\V\\V\\V\\V\\V\\V\\V\\V\\V\\V\\V\\V\\V\\V\\V\\V\\V\\V\\V\\V\\V\\V\\V\\V\\V\\V\\V\\N'/></struct></niftoolsxml>",
+        99,
+    ),
+    // C5 last of forty names
+    (
+        b"<niftoolsxml><basic name='uint'/><basic name='byte'/><basic name='bool'/><basic name='float'/><basic name='Ref'/><struct name='V'><field name='V' type='V'/><field name='N' type='uint'/><field name='D' type='float'/></struct><struct name='T'><field name='V' type='V'/><field name='A' type='uint' cond='V\\V\\V\\V\\V\\V\\V\\V\\V\\V\\V\\V\\V\\V\\V\\V\\V\\V\\V\\V\\V\\V\\V\\V\\V\\V\\V\\V\\V\\V\\V\\V\\V\\V\\V\\V\\V\\V\\V\\M'/></struct></niftoolsxml>",
+        5,
+    ),
+    // C6 last of forty names
+    (
+        b"<niftoolsxml><basic name='uint'/><basic name='byte'/><basic name='bool'/><basic name='float'/><basic name='Ref'/><struct name='V'><field name='V' type='V'/><field name='N' type='uint'/><field name='D' type='float'/></struct><struct name='T'><field name='V' type='V'/><field name='A' type='uint' cond='V\\V\\V\\V\\V\\V\\V\\V\\V\\V\\V\\V\\V\\V\\V\\V\\V\\V\\V\\V\\V\\V\\V\\V\\V\\V\\V\\V\\V\\V\\V\\V\\V\\V\\V\\V\\V\\V\\V\\D'/></struct></niftoolsxml>",
+        6,
+    ),
+    // C6 number before the last of forty names
+    (
+        b"<niftoolsxml><basic name='uint'/><basic name='byte'/><basic name='bool'/><basic name='float'/><basic name='Ref'/><struct name='V'><field name='V' type='V'/><field name='N' type='uint'/><field name='D' type='float'/></struct><struct name='T'><field name='V' type='V'/><field name='A' type='uint' cond='V\\V\\V\\V\\V\\V\\V\\V\\V\\V\\V\\V\\V\\V\\V\\V\\V\\V\\V\\V\\V\\V\\V\\V\\V\\V\\V\\V\\V\\V\\V\\V\\V\\V\\V\\V\\V\\V\\N\\N'/></struct></niftoolsxml>",
         6,
     ),
 ];
