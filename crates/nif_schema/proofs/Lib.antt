@@ -1,4 +1,4 @@
-pub mod TableLemmas
+pub mod Numbering
 pub mod Pigeonhole
 pub mod WalkLemmas
 pub mod LineLemmas

@@ -1,19 +1,23 @@
 -- What a schema and an iterator over a line keep.
-use Rattle.std.specs.Prelude.{ℕ, zero, suc, ◌≡◌, ◌<◌, List, [], ◌++◌, length, map, drop, All, Some}
+use Rattle.std.specs.Prelude.{ℕ, zero, suc, ◌≡◌, ◌<◌, List, [], ◌++◌, length, map, drop, All, Some, Vec}
 use Rattle.std.specs.Option.{option_map_or}
-use Rattle.nif_schema.specs.Declaration.{Field, declaration}
-use Rattle.nif_schema.specs.Schema.{Schema, IsSchema, fields_of, ancestor}
+use Rattle.std.specs.Ordering.{nat_cmp}
+use Rattle.std.specs.Cmp.Lexicographic.{slice_cmp}
+use Rattle.std.specs.BTreeMap.{BTreeMap, get_by}
+use Rattle.std.specs.declared.alloc.Global.{Global}
+use Rattle.nif_schema.specs.Declaration.{Name, Field, declaration}
+use Rattle.nif_schema.specs.Schema.{Schema, IsSchema, find, fields_of, ancestor}
 use Rattle.nif_schema.specs.declared.decls.Decl.{Decl}
 use Rattle.nif_schema.specs.declared.lines.Mark.{Mark}
 
--- the declarations of a table
-abbrev pub declarations : {K : Type 0} → List (K × Decl) → Schema
-declarations entries = map (λ e. declaration e.1) entries
+-- the declarations that are kept
+abbrev pub declarations : List Decl → Schema
+declarations decls = map declaration decls
 
--- a table has each declaration under its own name
-pub record IsTable {K : Type 0} (bytes : K → List ℕ) (entries : List (K × Decl)) : Type 0 where
-  pub keys : map (λ e. bytes e.0) entries ≡ map (λ e. e.1.name) entries
-  pub schema : IsSchema (declarations entries)
+-- they are a schema, and each name has its number
+pub record AreNumbered (decls : List Decl) (numbers : BTreeMap (Vec ℕ Global) ℕ) : Type 0 where
+  pub schema : IsSchema (declarations decls)
+  pub found : (name : Name) → get_by (λ key. slice_cmp nat_cmp name key.items) numbers ≡ find (declarations decls) name
 
 -- the fields of the declarations that are fewer steps above `own`, the highest first
 abbrev pub below : Schema → ℕ → ℕ → List Field

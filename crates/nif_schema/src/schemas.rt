@@ -6,17 +6,18 @@ ghost use Rattle.nif_schema.specs.Schema.{find, find_block, parent, is_a, line, 
 
 use crate::decls::Decl;
 use crate::lines::Line;
-use indexmap::IndexMap;
 use nif_base::{NoMemory, Word};
 use std::alloc::Global;
+use std::collections::BTreeMap;
 use std::marker::Model;
 
 /// A schema: at most 2^32 - 1 declarations with different names. The number of a declaration is its place,
-/// counted from 0. Names are found by their hashes.
+/// counted from 0. Names are found by their order, so that no names make looking them up slow.
 #[derive(Drop)]
 pub struct Schema {
     alloc: Global,
-    table: IndexMap<Vec<u8>, Decl>,
+    decls: Vec<Decl>,
+    numbers: BTreeMap<Vec<u8>, u32>,
 }
 
 impl Model for Schema {
@@ -29,11 +30,11 @@ impl Model for Schema {
 
     ghost coded = { coded_list coded_declaration };
 
-    ghost use Rattle.nif_schema.specs.Kept.{declarations, IsTable};
+    ghost use Rattle.nif_schema.specs.Kept.{declarations, AreNumbered};
 
-    ghost view = { λ s. declarations s.table.entries };
+    ghost view = { λ s. declarations s.decls.items };
 
-    ghost invariant = { λ s. IsTable (λ key. key.items) s.table.entries };
+    ghost invariant = { λ s. AreNumbered s.decls.items s.numbers };
 }
 
 impl Schema {
@@ -43,7 +44,8 @@ impl Schema {
     {
         Schema {
             alloc,
-            table: IndexMap::new(alloc),
+            decls: Vec::new(alloc),
+            numbers: BTreeMap::new(alloc),
         }
     }
 
@@ -62,8 +64,14 @@ impl Schema {
         let Ok(name) = Vec::from_slice(self.alloc, decl.name.bytes()) else {
             return Err(NoMemory);
         };
-        match self.table.insert(name, decl) {
-            Ok(_) => Ok(true),
+        if self.decls.reserve(1).is_err() {
+            return Err(NoMemory);
+        }
+        match self.numbers.insert(name, self.decls.len() as u32) {
+            Ok(_) => {
+                self.decls.push_reserved(decl);
+                Ok(true)
+            }
             Err(_) => Err(NoMemory),
         }
     }
@@ -73,7 +81,7 @@ impl Schema {
         ensures value { result ≡ length self.now }
         ensures schema { IsSchema self.now }
     {
-        self.table.len() as u32
+        self.decls.len() as u32
     }
 
     /// The declaration of a number.
@@ -81,7 +89,7 @@ impl Schema {
         requires { number < length self.now }
         ensures { slice_get self.now number ≡ Some (declaration result.now) }
     {
-        &self.table[number as usize]
+        &self.decls[number as usize]
     }
 
     /// The number of the declaration of a name.
@@ -89,8 +97,7 @@ impl Schema {
         ensures value { result ≡ find self.now name.now }
         ensures within { IfSome result (λ number. number < length self.now) }
     {
-        let number = self.table.get_index_of(name)?;
-        Some(number as u32)
+        self.numbers.get(name).copied()
     }
 
     /// The number of the block type of a name.

@@ -1,36 +1,26 @@
-use Rattle.std.proofs.Common.{◌≡◌, ℕ, ◌^◌, ◌<◌, ◌-◌, [], ◌∷◌, ◌++◌, length, Vec, Global, None, bytes_eq, sym, ap, subst, ◌∙◌}
-use Rattle.std.specs.Map.{lookup}
-use Rattle.indexmap.proofs.CallerLemmas.{insert_entry-new}
+use Rattle.std.specs.Ordering.{nat_cmp}
+use Rattle.std.specs.Cmp.Lexicographic.{slice_cmp}
+use Rattle.std.specs.BTreeMap.{UpdatesBy}
+use Rattle.std.proofs.Common.{rules, ◌≡◌, ℕ, Vec, Global, Some, ◌^◌, ◌<◌, ◌-◌, [], ◌∷◌, ◌++◌, length, None, sym, ap, subst, ◌∙◌}
 use Rattle.nif_schema.specs.Declaration.{declaration}
 use Rattle.nif_schema.specs.Schema.{Schema, find}
-use Rattle.nif_schema.specs.Kept.{declarations, IsTable}
-use Rattle.nif_schema.proofs.TableLemmas.{none_from_is_some, lookup-none, declarations-push, IsTable-push}
+use Rattle.nif_schema.specs.Kept.{declarations, AreNumbered}
+use Rattle.nif_schema.proofs.Numbering.{none_from_is_some, AreNumbered-push}
 use Rattle.nif_schema.proofs.schemas.Schema.add.Goals as goal
 
-absent : (c : goal.Joined-insert-2) → find (declarations c.self.inside.table.entries) c.args.decl.name ≡ None
-absent c =
+pub invariant_of-self-in-Ok-insert : goal.invariant_of-self-in-Ok-insert
+invariant_of-self-in-Ok-insert c =
+    let absent : find (declarations c.self.inside.decls.items) c.args.decl.name ≡ None =
     ap (λ s. find s c.args.decl.name) c.self.view_is
     ∙ sym (ap (find c.args.self.now) c.bytes.ensures)
     ∙ sym c.find.ensures.value
     ∙ none_from_is_some c.find.result (sym c.is_some.ensures ∙ c.if-is_some.false)
-
-grown : (c : goal.Joined-insert-2) → c.insert.new.self.entries ≡ c.self.inside.table.entries ++ (c.in-Ok.name, c.args.decl) ∷ []
-grown c =
-    let entries = c.self.inside.table.entries in
-    let items = c.in-Ok.ensures.items ∙ c.bytes-2.ensures in
-    let none = lookup-none (λ (key : Vec ℕ Global). key.items) entries c.args.decl.name c.self.invariant.keys (absent c) in
-    let by_key = subst (λ n. lookup (λ (key : Vec ℕ Global). bytes_eq n key.items) entries ≡ None) (sym items) none in
-    c.in-Ok-insert.ensures.entries ∙ insert_entry-new _ c.self.inside.table c.in-Ok.name c.args.decl by_key
-
-pub invariant_of-self : goal.invariant_of-self
-invariant_of-self c =
-    let bytes = λ (key : Vec ℕ Global). key.items in
-    subst (IsTable bytes) (sym (grown c))
-    (IsTable-push bytes c.self.inside.table.entries c.in-Ok.name c.args.decl c.self.invariant (c.in-Ok.ensures.items ∙ c.bytes-2.ensures) (absent c)
+    in
+    let decls = c.self.inside.decls.items in
+    let pushed : c.push_reserved.new.self.items ≡ decls ++ c.args.decl ∷ [] = c.push_reserved.ensures.items ∙ ap (λ ds. ds ++ c.args.decl ∷ []) c.reserve.ensures.items in
+    let number : c.len.result ≡ length decls = search rules in
+    subst (λ ds. AreNumbered ds c.insert.new.self) (sym pushed)
+    (AreNumbered-push decls c.args.decl c.self.inside.numbers c.insert.new.self c.in-Ok.name c.self.invariant (c.in-Ok.ensures.items ∙ c.bytes-2.ensures) absent
+    (subst (λ n. UpdatesBy (λ (x : Vec ℕ Global) (y : Vec ℕ Global). slice_cmp nat_cmp x.items y.items) (λ (y : Vec ℕ Global). slice_cmp nat_cmp c.in-Ok.name.items y.items)
+    c.self.inside.numbers c.insert.new.self (Some n)) number c.in-Ok-insert.ensures.updates)
     c.requires.leaf (subst (λ (s : Schema). length s < 2 ^ 32 - 1) (sym c.self.view_is) c.requires.room))
-
-pub returns-in-Ok-insert-clause-schema : goal.returns-in-Ok-insert-clause-schema
-returns-in-Ok-insert-clause-schema c =
-    ap declarations (grown c)
-    ∙ declarations-push (λ (key : Vec ℕ Global). key.items) c.self.inside.table.entries c.in-Ok.name c.args.decl
-    ∙ ap (λ s. s ++ declaration c.args.decl ∷ []) c.self.view_is
