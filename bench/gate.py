@@ -19,26 +19,38 @@ def words_of(pid):
         return file.read().decode(errors="replace").split("\0")[:-1]
 
 
+def fields_of(pid):
+    """What the system says of a process, from its state on."""
+    with open("/proc/%s/stat" % pid, "rb") as file:
+        return file.read().decode(errors="replace").rpartition(")")[2].split()
+
+
 def time_of(pid):
     """The processor seconds of a process itself, without those of its children."""
-    with open("/proc/%s/stat" % pid, "rb") as file:
-        fields = file.read().decode(errors="replace").rpartition(")")[2].split()
+    fields = fields_of(pid)
     return (int(fields[11]) + int(fields[12])) / TICKS
 
 
+def is_below(pid, top):
+    """Whether a process was started by another, or by one that it started."""
+    while pid not in ("0", "1", top):
+        pid = fields_of(pid)[1]
+    return pid == top
+
+
 def kind_of(pid, words):
-    """What a prover works for; the edits of a crate are tried in folders of their own, and so is what they begin with."""
+    """What a prover works for. The edits of a crate, and what they begin with, are tried in folders of their own."""
     if os.path.basename(os.readlink("/proc/%s/cwd" % pid)).startswith("rt-edit-"):
         return "edits"
     return "tests" if "--test" in words else "proof"
 
 
-def provers():
-    """The provers that run now: process, crate, kind, and processor seconds so far."""
+def provers(top):
+    """The provers that run below a process: process, crate, kind, and processor seconds so far."""
     for pid in filter(str.isdigit, os.listdir("/proc")):
         try:
             words = words_of(pid)
-            if words and os.path.basename(words[0]) == "rattle" and "--crate-name" in words:
+            if words and os.path.basename(words[0]) == "rattle" and "--crate-name" in words and is_below(pid, top):
                 crate = words[words.index("--crate-name") + 1]
                 yield pid, crate, kind_of(pid, words), time_of(pid)
         except (OSError, IndexError, ValueError):
@@ -49,11 +61,9 @@ def watched(command):
     """Runs the command and returns its status and the seconds of each prover, by process, crate and kind."""
     seconds = {}
     run = subprocess.Popen(command, stdin=subprocess.DEVNULL, stdout=sys.stderr)
-    earlier = {pid for pid, *_ in provers()}
     while run.poll() is None:
-        for pid, crate, kind, spent in provers():
-            if pid not in earlier:
-                seconds[pid, crate, kind] = spent
+        for pid, crate, kind, spent in provers(str(run.pid)):
+            seconds[pid, crate, kind] = spent
         time.sleep(0.2)
     return run.returncode, seconds
 
