@@ -1,3 +1,5 @@
+pub mod Limits
+pub mod Ascii
 pub mod Outside
 pub mod Reading
 pub mod Shelf

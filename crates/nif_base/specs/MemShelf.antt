@@ -1,5 +1,5 @@
--- What a shelf in memory tells: everything.
-use Rattle.std.specs.Prelude.{◌≡◌, ℕ, List, [], None, Some, refl, Vec}
+-- What a shelf in memory tells: everything, and the last refusal until memory runs out for the name of one.
+use Rattle.std.specs.Prelude.{◌≡◌, ℕ, Bool, List, [], None, Some, refl, Vec}
 use Rattle.std.proofs.Common.{◌∙◌, ap}
 use Rattle.std.specs.declared.option.Option.{Option}
 use Rattle.std.specs.Option.{option_and_then}
@@ -11,8 +11,13 @@ use Rattle.nif_base.specs.MemParts.{desk_of, refusal_of, rest_of, rest_under}
 use Rattle.nif_base.specs.declared.mem_files.MemFiles.{MemFiles}
 use Rattle.nif_base.specs.declared.mem_shelf.MemShelf.{MemShelf}
 
+-- the bytes still to come
+abbrev pub left_of : MemShelf → Option (List ℕ)
+left_of s = Some (rest_under s.input (rest_of s.given))
+
 abbrev pub view_of : MemShelf → View
 view_of s = record {
+  left = left_of s;
   desk = Some (desk_of s.files s.input);
   taken = Some s.files.taken.items;
   refused = refusal_of s.refusals;
@@ -21,9 +26,9 @@ view_of s = record {
   opens = s.refusals.faults;
 }
 
--- the bytes still to come
-abbrev pub left_of : MemShelf → Option (List ℕ)
-left_of s = Some (rest_under s.input (rest_of s.given))
+-- whether refusals are told: until memory runs out for the name of one
+abbrev pub tells_refusals : MemShelf → Bool
+tells_refusals s = s.refusals.tells
 
 -- its calls, and those that are to fail
 abbrev pub calls_of : MemShelf → Calls

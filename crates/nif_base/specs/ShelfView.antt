@@ -6,8 +6,9 @@ use Rattle.std.specs.Option.{option_map}
 use Rattle.nif_base.specs.Outside.{appended}
 use Rattle.nif_base.specs.Shelf.{Desk, Refusal, written, files_written-nil, files_written-joined}
 
--- a shelf as it is told: desk, bytes taken, last refusal and counts of faults
+-- a shelf as it is told: bytes still to come, desk, bytes taken, last refusal and counts of faults
 pub record View : Type 0 where
+  pub left : Option (List ℕ)
   pub desk : Option Desk
   pub taken : Option (List ℕ)
   pub refused : Option Refusal
@@ -26,6 +27,7 @@ pub record Stayed (old new : View) : Type 0 where
 
 -- nothing but writes of bs was done
 pub record Grew (old : View) (bs : List ℕ) (new : View) : Type 0 where
+  pub left : new.left ≡ old.left
   pub desk : new.desk ≡ option_map (written bs) old.desk
   pub taken : new.taken ≡ appended old.taken bs
   pub refused : new.refused ≡ old.refused
@@ -35,7 +37,7 @@ pub record Grew (old : View) (bs : List ℕ) (new : View) : Type 0 where
 
 -- a shelf that tells nothing but counts
 abbrev pub untold : ℕ → ℕ → ℕ → View
-untold reads writes opens = record { desk = None; taken = None; refused = None; reads = reads; writes = writes; opens = opens }
+untold reads writes opens = record { left = None; desk = None; taken = None; refused = None; reads = reads; writes = writes; opens = opens }
 
 -- ---- laws
 
@@ -62,15 +64,16 @@ appended_twice None x y = refl
 appended_twice (Some t) x y = ap Some (append_assoc t x y)
 
 -- nothing was written
-pub grew_none : (u v : View) → v.desk ≡ u.desk → v.taken ≡ u.taken → v.refused ≡ u.refused → u.reads ≤ v.reads → u.writes ≤ v.writes → u.opens ≤ v.opens → Grew u [] v
-grew_none u v desk taken refused reads writes opens =
-    record { desk = desk ∙ written_none u.desk; taken = taken ∙ appended_none u.taken; refused = refused; reads = reads; writes = writes; opens = opens }
+pub grew_none : (u v : View) → v.left ≡ u.left → v.desk ≡ u.desk → v.taken ≡ u.taken → v.refused ≡ u.refused → u.reads ≤ v.reads → u.writes ≤ v.writes → u.opens ≤ v.opens → Grew u [] v
+grew_none u v left desk taken refused reads writes opens =
+    record { left = left; desk = desk ∙ written_none u.desk; taken = taken ∙ appended_none u.taken; refused = refused; reads = reads; writes = writes; opens = opens }
 
 pub grew_same : (v : View) → Grew v [] v
-grew_same v = grew_none v v refl refl refl (omega arith) (omega arith) (omega arith)
+grew_same v = grew_none v v refl refl refl refl (omega arith) (omega arith) (omega arith)
 
 pub grew_joined : (u v w : View) (x y z : List ℕ) → Grew u x v → Grew v y w → x ++ y ≡ z → Grew u z w
 grew_joined u v w x y z p q e = record {
+  left = q.left ∙ p.left;
   desk = q.desk ∙ ap (option_map (written y)) p.desk ∙ written_twice u.desk x y ∙ ap (λ bs. option_map (written bs) u.desk) e;
   taken = q.taken ∙ ap (λ t. appended t y) p.taken ∙ appended_twice u.taken x y ∙ ap (appended u.taken) e;
   refused = q.refused ∙ p.refused;

@@ -3,7 +3,9 @@
 //! that each failure comes only where a count of failures rose, and that reading or writing all is exact.
 #![tactic(auto)]
 
+pub mod ascii;
 pub mod faults;
+pub mod limits;
 pub mod lists;
 pub mod mem_calls;
 pub mod mem_files;
@@ -18,6 +20,7 @@ pub mod transfer;
 pub mod versions;
 pub mod words;
 
+pub use ascii::{digit_value, is_blank, is_digit, is_hex_digit};
 pub use faults::{Failed, NoMemory, WriteFault};
 pub use lists::Numbers;
 pub use mem_shelf::MemShelf;

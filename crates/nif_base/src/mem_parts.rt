@@ -1,5 +1,5 @@
 //! The parts of a shelf in memory beside its files: the input that is read, and the refusals.
-ghost use Rattle.std.specs.Prelude.{◌≡◌, ℕ, ◌<◌, ◌≤◌, List, [], ◌++◌, length, IfSome, IsNone, IsTrue, Option, Some, None, take, vec_len};
+ghost use Rattle.std.specs.Prelude.{◌≡◌, ℕ, ◌<◌, ◌≤◌, List, [], ◌++◌, length, IfSome, IsSome, IsNone, IsTrue, IsFalse, Option, Some, None, take, vec_len};
 ghost use Rattle.std.specs.FinMap.{get};
 ghost use Rattle.nif_base.specs.Outside.{Rose};
 ghost use Rattle.nif_base.specs.MemFiles.{all_files};
@@ -23,12 +23,14 @@ pub struct MemRefusal {
     pub name: Vec<u8>,
 }
 
-/// The last refusal, kept until memory runs out for one, and the count of all.
+/// The last refusal, told until memory runs out for one, and the count of all.
 #[derive(Drop)]
 pub struct MemRefusals {
     pub last: Option<MemRefusal>,
-    pub lost: bool,
+    pub tells: bool,
     pub faults: u64,
+    ghost told: { 0 < faults → IsTrue tells → IsSome last },
+    ghost untold: { IsFalse tells → IsNone last },
 }
 
 impl MemInput {
@@ -60,15 +62,15 @@ impl MemRefusals {
         ensures later { self.old.faults ≤ self.new.faults }
         ensures rose { Rose self.old.faults self.new.faults }
 
-        // once memory ran out for a name, none is kept from then on
-        ensures lost { IsTrue self.old.lost → IsTrue self.new.lost }
-        ensures untold { IsTrue self.old.lost → IsNone self.new.last }
+        // once memory ran out for a name, none is told from then on
+        ensures tells { IsTrue self.new.tells → IsTrue self.old.tells }
+        ensures kept { IsTrue self.new.tells → IsSome (refusal_of self.new) }
     {
         self.faults = self.faults.saturating_add(1);
         match Vec::from_slice(alloc, name) {
-            Ok(name) if !self.lost => self.last = Some(MemRefusal { kind, name }),
+            Ok(name) if self.tells => self.last = Some(MemRefusal { kind, name }),
             _ => {
-                self.lost = true;
+                self.tells = false;
                 self.last = None;
             }
         }

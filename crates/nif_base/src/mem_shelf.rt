@@ -1,5 +1,5 @@
 //! A shelf in memory.
-ghost use Rattle.std.specs.Prelude.{◌≡◌, ◌↔◌, ℕ, ◌<◌, ◌≤◌, List, [], ◌∷◌, ◌++◌, length, OnOk, OnErr, IfSome, IfOk, IsErr, IsTrue, Option, Some, None, refl};
+ghost use Rattle.std.specs.Prelude.{◌≡◌, ◌↔◌, ℕ, ◌<◌, ◌≤◌, List, [], ◌∷◌, ◌++◌, length, OnOk, OnErr, IfSome, IfOk, IsErr, IsSome, IsTrue, IsFalse, Option, Some, None, refl};
 ghost use Rattle.std.specs.Option.{option_map, option_copied};
 ghost use Rattle.std.specs.FinMap.{get, empty};
 ghost use Rattle.nif_base.specs.Outside.{HasCause, prepended, moved, IsAtEnd};
@@ -14,8 +14,8 @@ use crate::outside::{Sink, Source};
 use crate::shelves::{Kind, Shelf};
 use std::alloc::Global;
 
-/// Files in memory. It tells everything; where it finds no memory for a write, for its copy of an input or for a
-/// new name, the call fails.
+/// Files in memory. It tells everything, but no refusal once memory ran out for the name of one; where it finds no
+/// memory for a write, for its copy of an input or for a new name, the call fails.
 #[derive(Drop)]
 pub struct MemShelf {
     alloc: Global,
@@ -31,13 +31,22 @@ pub struct MemShelf {
 }
 
 impl MemShelf {
-    ghost use Rattle.nif_base.specs.MemShelf.{view_of, calls_of, piece_of};
+    ghost use Rattle.nif_base.specs.MemShelf.{view_of, tells_refusals, calls_of, piece_of};
 
     /// A shelf without files; one call gives or takes at most `piece` bytes.
     pub fn new(alloc: Global, piece: usize) -> MemShelf
         requires { 0 < piece }
-        ensures view { view_of result ≡ record { desk = Some (record { files = empty; input = None; output = None }); taken = Some []; refused = None; reads = 0; writes = 0; opens = 0 } }
+        ensures view { view_of result ≡ record {
+          left = Some [];
+          desk = Some (record { files = empty; input = None; output = None });
+          taken = Some [];
+          refused = None;
+          reads = 0;
+          writes = 0;
+          opens = 0;
+        } }
         ensures left { ⟦<MemShelf as Source>⟧.left result ≡ Some [] }
+        ensures tells { IsTrue (tells_refusals result) }
         ensures piece { piece_of result ≡ piece }
         ensures calls { calls_of result ≡ record { next = 0; failing = [] } }
     {
@@ -52,7 +61,7 @@ impl MemShelf {
             },
             refusals: MemRefusals {
                 last: None,
-                lost: false,
+                tells: true,
                 faults: 0,
             },
             calls: MemCalls::new(alloc),
@@ -64,7 +73,7 @@ impl MemShelf {
 
 impl Source for MemShelf {
     ghost use Rattle.nif_base.specs.ShelfView.{Stayed, stayed_same, stayed_joined};
-    ghost use Rattle.nif_base.specs.MemShelf.{view_of, left_of, calls_of, piece_of};
+    ghost use Rattle.nif_base.specs.MemShelf.{view_of, left_of, tells_refusals, calls_of, piece_of};
 
     ghost left = { λ s. left_of s };
 
@@ -84,6 +93,7 @@ impl Source for MemShelf {
         ensures bytes { left_of self.old ≡ prepended (moved result buf.new) (left_of self.new) }
         ensures cause { HasCause self.old.read_faults self.new.read_faults result }
         ensures still { Stayed (view_of self.old) (view_of self.new) }
+        ensures tells { tells_refusals self.new ≡ tells_refusals self.old }
         ensures fails { IsErr result ↔ IsTrue (fails (calls_of self.old)) }
         ensures piece { IfOk result (λ n. n ≤ piece_of self.old) }
         ensures same_piece { piece_of self.new ≡ piece_of self.old }
@@ -102,7 +112,7 @@ impl Source for MemShelf {
 
 impl Sink for MemShelf {
     ghost use Rattle.nif_base.specs.ShelfView.{Grew, grew_same, grew_joined};
-    ghost use Rattle.nif_base.specs.MemShelf.{view_of, calls_of, piece_of};
+    ghost use Rattle.nif_base.specs.MemShelf.{view_of, tells_refusals, calls_of, piece_of};
 
     ghost taken = { λ s. (view_of s).taken };
 
@@ -124,6 +134,7 @@ impl Sink for MemShelf {
         ensures some { IfOk result (λ n. 0 < length piece.now → 0 < n) }
         ensures cause { HasCause self.old.write_faults self.new.write_faults result }
         ensures grew { Grew (view_of self.old) (moved result piece.now) (view_of self.new) }
+        ensures tells { tells_refusals self.new ≡ tells_refusals self.old }
         ensures fails { IsTrue (fails (calls_of self.old)) → IsErr result }
         ensures piece { IfOk result (λ n. n ≤ piece_of self.old) }
         ensures same_piece { piece_of self.new ≡ piece_of self.old }
@@ -146,7 +157,7 @@ impl Sink for MemShelf {
 
 impl Shelf for MemShelf {
     ghost use Rattle.nif_base.specs.Shelf.{written, opened, created, Opens, Refuses};
-    ghost use Rattle.nif_base.specs.MemShelf.{view_of, left_of, calls_of, piece_of, no_input_left};
+    ghost use Rattle.nif_base.specs.MemShelf.{view_of, left_of, tells_refusals, calls_of, piece_of, no_input_left};
 
     ghost desk = { λ s. (view_of s).desk };
 
@@ -158,7 +169,11 @@ impl Shelf for MemShelf {
         ensures ok { OnOk result ((view_of self.new).desk ≡ option_map (opened name.now) (view_of self.old).desk) }
         ensures there { OnOk result (IfSome (view_of self.old).desk (Opens name.now (left_of self.new))) }
         ensures err { OnErr result ((view_of self.new).desk ≡ (view_of self.old).desk) }
+        ensures err_left { OnErr result (left_of self.new ≡ left_of self.old) }
         ensures refused { Refuses Kind.Input name.now (view_of self.old).refused (view_of self.new).refused result }
+        ensures told { OnErr result (IsTrue (tells_refusals self.new) → IsSome (view_of self.new).refused) }
+        ensures tells { OnOk result (tells_refusals self.new ≡ tells_refusals self.old) }
+        ensures lost { IsTrue (tells_refusals self.new) → IsTrue (tells_refusals self.old) }
         ensures taken { (view_of self.new).taken ≡ (view_of self.old).taken }
         ensures cause { HasCause (view_of self.old).opens (view_of self.new).opens result }
         ensures reads { self.old.read_faults ≤ self.new.read_faults }
@@ -188,7 +203,11 @@ impl Shelf for MemShelf {
     fn create_output(&mut self, name: &str) -> Result<(), Failed>
         ensures ok { OnOk result ((view_of self.new).desk ≡ option_map (created name.now) (view_of self.old).desk) }
         ensures err { OnErr result ((view_of self.new).desk ≡ (view_of self.old).desk) }
+        ensures err_left { OnErr result (left_of self.new ≡ left_of self.old) }
         ensures refused { Refuses Kind.Output name.now (view_of self.old).refused (view_of self.new).refused result }
+        ensures told { OnErr result (IsTrue (tells_refusals self.new) → IsSome (view_of self.new).refused) }
+        ensures tells { OnOk result (tells_refusals self.new ≡ tells_refusals self.old) }
+        ensures lost { IsTrue (tells_refusals self.new) → IsTrue (tells_refusals self.old) }
         ensures taken { (view_of self.new).taken ≡ (view_of self.old).taken }
         ensures cause { HasCause (view_of self.old).opens (view_of self.new).opens result }
         ensures reads { self.old.read_faults ≤ self.new.read_faults }
@@ -232,6 +251,8 @@ impl Shelf for MemShelf {
 
     ghost still_opens = { λ a b p. p.opens };
 
+    ghost grew_left = { λ a b x p. p.left };
+
     ghost grew_desk = { λ a b x p. p.desk };
 
     ghost grew_refused = { λ a b x p. p.refused };
@@ -243,13 +264,13 @@ impl Shelf for MemShelf {
 
 impl MemShelf {
     ghost use Rattle.nif_base.specs.Shelf.{put};
-    ghost use Rattle.nif_base.specs.MemShelf.{view_of, left_of, calls_of, piece_of};
+    ghost use Rattle.nif_base.specs.MemShelf.{view_of, left_of, tells_refusals, calls_of, piece_of};
 
     /// Puts a file on the shelf, in place of one of that name; an input that was opened keeps its bytes.
     pub fn put(&mut self, name: &str, bytes: &[u8]) -> Result<(), NoMemory>
         ensures ok { OnOk result (view_of self.new ≡ record (view_of self.old) { desk = option_map (put name.now bytes.now) (view_of self.old).desk }) }
         ensures err { OnErr result (view_of self.new ≡ view_of self.old) }
-        ensures left { left_of self.new ≡ left_of self.old }
+        ensures tells { tells_refusals self.new ≡ tells_refusals self.old }
         ensures piece { piece_of self.new ≡ piece_of self.old }
         ensures calls { calls_of self.new ≡ calls_of self.old }
     {
@@ -263,12 +284,21 @@ impl MemShelf {
         self.files.find(name.as_bytes())
     }
 
+    /// Whether each refusal is told: until memory runs out for the name of one.
+    pub fn tells_refusals(&self) -> bool
+        ensures value { result ≡ tells_refusals self.now }
+        ensures told { IsTrue result → 0 < (view_of self.now).opens → IsSome (view_of self.now).refused }
+        ensures untold { IsFalse result → (view_of self.now).refused ≡ None }
+    {
+        self.refusals.tells
+    }
+
     /// The call of the traits of this number, counted from 0, is to fail.
     pub fn fail_call(&mut self, number: u64) -> Result<(), NoMemory>
         ensures ok { OnOk result (calls_of self.new ≡ record (calls_of self.old) { failing = (calls_of self.old).failing ++ number ∷ [] }) }
         ensures err { OnErr result (calls_of self.new ≡ calls_of self.old) }
         ensures view { view_of self.new ≡ view_of self.old }
-        ensures left { left_of self.new ≡ left_of self.old }
+        ensures tells { tells_refusals self.new ≡ tells_refusals self.old }
         ensures piece { piece_of self.new ≡ piece_of self.old }
     {
         self.calls.fail(number)

@@ -29,22 +29,25 @@ pub trait Shelf: Source + Sink {
     /// How many opens and creates have failed.
     ghost open_faults: { Self → ℕ };
 
-    /// Makes a file the current input; the current output stays. A failed open leaves files, input and output.
+    /// Makes a file the current input; the current output stays. A failed open leaves files, input and output, and the
+    /// bytes still to come.
     fn open_input(&mut self, name: &str) -> Result<(), Failed>
         ensures ok { OnOk result (desk self.new ≡ option_map (opened name.now) (desk self.old)) }
         ensures there { OnOk result (IfSome (desk self.old) (Opens name.now (Self.left self.new))) }
         ensures err { OnErr result (desk self.new ≡ desk self.old) }
+        ensures err_left { OnErr result (Self.left self.new ≡ Self.left self.old) }
         ensures refused { Refuses Kind.Input name.now (refused self.old) (refused self.new) result }
         ensures taken { Self.taken self.new ≡ Self.taken self.old }
         ensures cause { HasCause (open_faults self.old) (open_faults self.new) result }
         ensures reads { Self.read_faults self.old ≤ Self.read_faults self.new }
         ensures writes { Self.write_faults self.old ≤ Self.write_faults self.new };
 
-    /// Makes an empty file the current output, and leaves no current input. A failed create leaves files, input
-    /// and output.
+    /// Makes an empty file the current output, and leaves no current input. A failed create leaves files, input and
+    /// output, and the bytes still to come.
     fn create_output(&mut self, name: &str) -> Result<(), Failed>
         ensures ok { OnOk result (desk self.new ≡ option_map (created name.now) (desk self.old)) }
         ensures err { OnErr result (desk self.new ≡ desk self.old) }
+        ensures err_left { OnErr result (Self.left self.new ≡ Self.left self.old) }
         ensures refused { Refuses Kind.Output name.now (refused self.old) (refused self.new) result }
         ensures taken { Self.taken self.new ≡ Self.taken self.old }
         ensures cause { HasCause (open_faults self.old) (open_faults self.new) result }
@@ -64,6 +67,8 @@ pub trait Shelf: Source + Sink {
     ghost still_writes: { (a b : Self) → Self.still a b → Self.write_faults a ≤ Self.write_faults b };
 
     ghost still_opens: { (a b : Self) → Self.still a b → open_faults a ≤ open_faults b };
+
+    ghost grew_left: { (a b : Self) (x : List ℕ) → Self.grew a x b → Self.left b ≡ Self.left a };
 
     ghost grew_desk: { (a b : Self) (x : List ℕ) → Self.grew a x b → desk b ≡ option_map (written x) (desk a) };
 
