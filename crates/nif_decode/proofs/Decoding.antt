@@ -13,7 +13,7 @@ use Rattle.nif_schema.specs.declared.contexts.Context as code
 use Rattle.nif_decode.specs.declared.faults.Bounds.{Bounds}
 use Rattle.nif_stream.specs.declared.takers.Taker.{Taker}
 use Rattle.nif_stream.specs.Taking.{Takes, place_of}
-use Rattle.nif_stream.proofs.TakerLaws.{takes_joined}
+use Rattle.nif_stream.specs.TakerLaws.{takes_joined}
 use Rattle.nif_layout.specs.Context.{Context}
 use Rattle.nif_layout.specs.Kind as kind
 use Rattle.nif_layout.specs.Kind.{kind_of, kind_of_what}

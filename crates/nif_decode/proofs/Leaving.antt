@@ -10,7 +10,7 @@ use Rattle.nif_stream.specs.Taking.{source_of, place_of, left_of, ahead_of, byte
 use Rattle.nif_stream.specs.Taking as takes
 use Rattle.nif_stream.specs.Taking.{Takes}
 use Rattle.nif_value.specs.Trees as trees
-use Rattle.nif_stream.proofs.TakerLaws.{takes_most, keeps_same}
+use Rattle.nif_stream.specs.TakerLaws.{takes_most, keeps_same}
 use Rattle.nif_layout.specs.Fault as plain
 use Rattle.nif_layout.specs.Fault.{Fault, Point, Passes, one_more, most_nodes, most_bytes}
 use Rattle.nif_layout.specs.LeafFault.{shortage, number_at, range_fault, or_else}

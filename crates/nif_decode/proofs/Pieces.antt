@@ -8,7 +8,7 @@ use Rattle.nif_stream.specs.declared.takers.Taker.{Taker}
 use Rattle.nif_stream.specs.declared.takers.TakeFault.{TakeFault}
 use Rattle.nif_stream.specs.declared.takers.TakeFault.TheVariants as take
 use Rattle.nif_stream.specs.Taking.{source_of, place_of, left_of, Takes, Misses, need_fault, asked_at}
-use Rattle.nif_stream.proofs.TakerLaws.{need_short, need_long, keeps_same, keeps_joined, prepended_none, takes_joined}
+use Rattle.nif_stream.specs.TakerLaws.{need_short, need_long, keeps_same, keeps_joined, prepended_none, takes_joined}
 use Rattle.nif_layout.specs.Fault as plain
 use Rattle.nif_layout.specs.Fault.{Fault, Point, most_bytes}
 use Rattle.nif_layout.specs.LeafFault.{shortage}

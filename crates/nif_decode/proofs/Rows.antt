@@ -9,7 +9,7 @@ use Rattle.nif_base.specs.Node as node
 use Rattle.nif_base.specs.Node.{Node, Members, End, Here, Absent, text, texts, nodes, nodes_in}
 use Rattle.nif_stream.specs.declared.takers.Taker.{Taker}
 use Rattle.nif_stream.specs.Taking.{source_of, place_of, left_of, Takes}
-use Rattle.nif_stream.proofs.TakerLaws.{keeps_same, keeps_joined, prepended_none, takes_joined}
+use Rattle.nif_stream.specs.TakerLaws.{keeps_same, keeps_joined, prepended_none, takes_joined}
 use Rattle.nif_layout.specs.Kind.{Kind}
 use Rattle.nif_layout.specs.Form.{Form, Row}
 use Rattle.nif_layout.specs.Fault as plain

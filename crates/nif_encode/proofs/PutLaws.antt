@@ -6,7 +6,7 @@ use Rattle.std.proofs.lemmas.List.{take_at, take-append-drop}
 use Rattle.nif_base.specs.declared.orders.Order.{Order}
 use Rattle.nif_stream.specs.declared.putters.Putter.{Putter}
 use Rattle.nif_stream.specs.Putting.{IsSound, Puts, Fails}
-use Rattle.nif_stream.proofs.PutterLaws.{adds_none, puts_more, fails_more, fails_before}
+use Rattle.nif_stream.specs.PutterLaws.{adds_none, puts_more, fails_more, fails_before}
 use Rattle.nif_base.specs.Node.{Node, Num, Line, Ref, Text, Bytes, Group, Row, text}
 use Rattle.nif_cells.specs.Walks.{Met, walk}
 use Rattle.nif_cells.specs.declared.steps.Step.{Step}

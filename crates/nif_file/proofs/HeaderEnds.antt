@@ -12,7 +12,7 @@ use Rattle.nif_layout.specs.Fault.{Fault, Point, Passes, one_more, most_bytes, m
 use Rattle.nif_layout.specs.Fails.{LineFails}
 use Rattle.nif_stream.specs.declared.takers.Taker.{Taker}
 use Rattle.nif_stream.specs.Taking.{Takes, source_of, place_of, left_of, bytes_of}
-use Rattle.nif_stream.proofs.TakerLaws.{keeps_same, keeps_joined, if_prepended}
+use Rattle.nif_stream.specs.TakerLaws.{keeps_same, keeps_joined, if_prepended}
 use Rattle.nif_decode.specs.declared.faults.ValueFault.{ValueFault}
 use Rattle.nif_decode.specs.declared.faults.ValueFault.TheVariants as fault
 use Rattle.nif_decode.specs.Answers.{Went, Stops, FailsThere, Stand}

@@ -18,7 +18,7 @@ use Rattle.nif_layout.specs.Fault.{Fault, Point, most_bytes}
 use Rattle.nif_layout.specs.PathValue.{number_in}
 use Rattle.nif_stream.specs.declared.takers.Taker.{Taker}
 use Rattle.nif_stream.specs.Taking.{Takes, place_of}
-use Rattle.nif_stream.proofs.TakerLaws.{takes_joined}
+use Rattle.nif_stream.specs.TakerLaws.{takes_joined}
 use Rattle.nif_cells.specs.Building.{Building}
 use Rattle.nif_scope.specs.declared.entries.Entry.{Entry}
 use Rattle.nif_value.specs.Trees.{Trees}

@@ -23,7 +23,7 @@ use Rattle.nif_layout.specs.Fault.{Fault, Point, most_bytes, most_nodes}
 use Rattle.nif_layout.specs.Fails.{LeafFails, FormShapeFails, LineFails}
 use Rattle.nif_stream.specs.declared.takers.Taker.{Taker}
 use Rattle.nif_stream.specs.Taking.{Takes, left_of, place_of}
-use Rattle.nif_stream.proofs.TakerLaws.{keeps_same, prepended_none}
+use Rattle.nif_stream.specs.TakerLaws.{keeps_same, prepended_none}
 use Rattle.nif_cells.specs.Building.{Building, InGroup}
 use Rattle.nif_scope.specs.declared.entries.Entry.{Entry}
 use Rattle.nif_scope.specs.declared.entries.Entry.TheVariants as entry

@@ -4,7 +4,7 @@ use Rattle.std.specs.Prelude.{IfSome}
 use Rattle.nif_base.specs.Outside.{prepended, Rose}
 use Rattle.nif_stream.specs.declared.takers.Taker.{Taker}
 use Rattle.nif_stream.specs.Taking.{Takes, source_of, place_of, left_of, bytes_of}
-use Rattle.nif_stream.proofs.TakerLaws.{if_prepended}
+use Rattle.nif_stream.specs.TakerLaws.{if_prepended}
 use Rattle.nif_layout.specs.Fault.{Fault, Point, Passes, most_bytes, most_nodes}
 use Rattle.nif_layout.specs.Fails.{Lifted}
 use Rattle.nif_decode.specs.declared.faults.ValueFault.{ValueFault}

@@ -5,7 +5,7 @@ use Rattle.nif_base.specs.declared.orders.Order.{Order}
 use Rattle.nif_base.specs.Node.{number, is_little}
 use Rattle.nif_stream.specs.declared.takers.Taker.{Taker}
 use Rattle.nif_stream.specs.Taking.{Takes, left_of}
-use Rattle.nif_stream.proofs.TakerLaws.{takes_joined}
+use Rattle.nif_stream.specs.TakerLaws.{takes_joined}
 use Rattle.nif_layout.specs.Fault.{Fault, Ended, TooLong, Point, most_bytes}
 use Rattle.nif_layout.specs.LeafFault.{shortage, number_at}
 use Rattle.nif_layout.proofs.Bytes.{length_number}

@@ -8,7 +8,7 @@ use Rattle.nif_schema.specs.Schema.{Schema}
 use Rattle.nif_region.specs.Contents.{find, AreApart}
 use Rattle.nif_stream.specs.declared.takers.Taker.{Taker}
 use Rattle.nif_stream.specs.Taking.{Takes, left_of}
-use Rattle.nif_stream.proofs.TakerLaws.{takes_joined}
+use Rattle.nif_stream.specs.TakerLaws.{takes_joined}
 use Rattle.nif_layout.specs.Context.{Context}
 use Rattle.nif_layout.specs.Earlier.{Env}
 use Rattle.nif_layout.specs.Fault.{Point, Passes, most_nodes}

@@ -157,7 +157,7 @@ fn read_parts<S: Source>(
 /// Reads a file by a schema, in whatever pieces its bytes come. F1 to F23 come exactly where the bytes have that first
 /// fault (`docs/FILES.md` says each), and then at most 4,096 bytes beyond those that show it are gone; `ReadFault` only
 /// where a read failed in this call; `NoMemory` where memory ran out.
-#[tactic(auto, using(nif_stream::proofs::TakerLaws::takes))]
+#[tactic(auto, using(nif_stream::specs::TakerLaws::takes))]
 pub fn decode_file<S: Source>(
     alloc: Global,
     checked: &Checked,

@@ -1,6 +1,6 @@
 use Rattle.std.proofs.Common.{◌≡◌, ◌+◌, ◌≤◌, List, ℕ, ◌++◌, length, length-append, length-take, refl, sym, ◌∙◌, ap, subst, arith}
 use Rattle.nif_stream.specs.Taking.{Takes}
-use Rattle.nif_stream.proofs.TakerLaws.{takes_joined}
+use Rattle.nif_stream.specs.TakerLaws.{takes_joined}
 use Rattle.nif_layout.specs.LeafFault.{shortage}
 use Rattle.nif_decode.specs.Answers.{Ends}
 use Rattle.nif_decode.specs.Faults.{take_cause}
