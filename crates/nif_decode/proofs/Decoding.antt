@@ -19,7 +19,8 @@ use Rattle.nif_layout.specs.Kind as kind
 use Rattle.nif_layout.specs.Kind.{kind_of, kind_of_what}
 use Rattle.nif_layout.specs.Laws.{IsOpenType}
 use Rattle.nif_layout.specs.Shape.{Shape, IsGroup}
-use Rattle.nif_layout.specs.Fault.{Fault, Point, most_nodes}
+use Rattle.nif_base.specs.Limits.{most_nodes}
+use Rattle.nif_layout.specs.Fault.{Fault, Point}
 use Rattle.nif_layout.specs.Fails.{Fails, Counted, GroupFails}
 use Rattle.nif_cells.specs.Building.{Building, begun, placed}
 use Rattle.nif_region.specs.Contents.{find}

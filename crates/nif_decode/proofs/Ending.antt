@@ -9,7 +9,8 @@ use Rattle.nif_stream.specs.declared.takers.TakeFault.TheVariants as take
 use Rattle.nif_stream.specs.Taking as taking
 use Rattle.nif_stream.specs.Taking.{source_of, place_of, left_of, ahead_of, IsSound, Takes, Misses, need_fault, line_end, asked_at}
 use Rattle.nif_layout.specs.Fault as plain
-use Rattle.nif_layout.specs.Fault.{Fault, Point, most_bytes}
+use Rattle.nif_base.specs.Limits.{most_file_bytes}
+use Rattle.nif_layout.specs.Fault.{Fault, Point}
 use Rattle.nif_layout.specs.LeafFault.{shortage, newline, line_needs, line_fault, or_else}
 use Rattle.nif_base.specs.Outside.{Rose}
 use Rattle.nif_cells.specs.Building.{Building}

@@ -14,7 +14,8 @@ use Rattle.nif_stream.specs.TakerLaws.{takes_joined}
 use Rattle.nif_layout.specs.Context.{Context}
 use Rattle.nif_layout.specs.Earlier as env
 use Rattle.nif_layout.specs.Earlier.{Env, passed}
-use Rattle.nif_layout.specs.Fault.{Fault, Point, most_nodes}
+use Rattle.nif_base.specs.Limits.{most_nodes}
+use Rattle.nif_layout.specs.Fault.{Fault, Point}
 use Rattle.nif_layout.specs.Members.{no_check}
 use Rattle.nif_layout.specs.Shape.{LineShape}
 use Rattle.nif_layout.specs.Fails.{LineFails}

@@ -10,14 +10,15 @@ use Rattle.nif_stream.specs.declared.takers.TakeFault.TheVariants as take
 use Rattle.nif_stream.specs.Taking.{source_of, place_of, left_of, Takes, Misses, need_fault, asked_at}
 use Rattle.nif_stream.specs.TakerLaws.{need_short, need_long, keeps_same, keeps_joined, prepended_none, takes_joined}
 use Rattle.nif_layout.specs.Fault as plain
-use Rattle.nif_layout.specs.Fault.{Fault, Point, most_bytes}
+use Rattle.nif_base.specs.Limits.{most_file_bytes}
+use Rattle.nif_layout.specs.Fault.{Fault, Point}
 use Rattle.nif_layout.specs.LeafFault.{shortage}
 use Rattle.nif_cells.specs.Building.{Building, InBytes, lengthened, TakesBytes}
 use Rattle.nif_value.specs.Trees as trees
 use Rattle.nif_value.specs.Trees.{after}
 use Rattle.nif_layout.specs.Leaf.{AreBytes}
 use Rattle.nif_layout.specs.PathValue.{extended}
-use Rattle.nif_layout.proofs.DecideLeaves.{bytes_append}
+use Rattle.nif_layout.specs.ByteLaws.{bytes_append}
 use Rattle.nif_scope.specs.declared.entries.Entry.TheVariants as entry
 use Rattle.nif_decode.specs.Runs.{bytes_kept, HasRun, RunSoFar}
 use Rattle.nif_scope.specs.declared.entries.Entry.{Entry}

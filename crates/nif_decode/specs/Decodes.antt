@@ -16,7 +16,8 @@ use Rattle.nif_layout.specs.Kind.{kind_of}
 use Rattle.nif_layout.specs.Earlier.{Env, passed}
 use Rattle.nif_layout.specs.Members.{no_check}
 use Rattle.nif_layout.specs.Shape.{Shape, LineShape}
-use Rattle.nif_layout.specs.Fault.{Fault, Point, most_nodes}
+use Rattle.nif_base.specs.Limits.{most_nodes}
+use Rattle.nif_layout.specs.Fault.{Fault, Point}
 use Rattle.nif_layout.specs.Fails.{Fails, LineFails}
 use Rattle.nif_scope.specs.declared.entries.Entry.{Entry}
 use Rattle.nif_region.specs.Contents.{find}

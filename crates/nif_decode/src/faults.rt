@@ -1,13 +1,11 @@
 //! Why a value was not read.
 ghost use Rattle.std.specs.Prelude.{◌≡◌, ◌+◌, ◌<◌, ◌≤◌, OnOk, IfErr, IfOk};
-ghost use Rattle.nif_layout.specs.Fault.{most_nodes};
+ghost use Rattle.nif_base.specs.Limits.{most_nodes};
 ghost use Rattle.nif_decode.specs.Faults.{cause, take_cause};
 
+use nif_base::limits::MOST_NODES;
 use nif_stream::TakeFault;
 use thiserror::Error;
-
-/// How many nodes a file may have: 2^24.
-const MOST_NODES: u32 = 1 << 24;
 
 /// Why a value was not read, with its place, and the number that is out of range.
 #[derive(Debug, Drop, Clone, Copy, PartialEq, Eq, Error)]

@@ -2,7 +2,7 @@
 ghost use Rattle.std.specs.Prelude.{◌≡◌, ◌≤◌, IsSome, Some, None, [], ◌∷◌};
 ghost use Rattle.nif_base.specs.Node as node;
 ghost use Rattle.nif_cells.specs.Building.{InGroup};
-ghost use Rattle.nif_layout.specs.Fault.{most_nodes};
+ghost use Rattle.nif_base.specs.Limits.{most_nodes};
 ghost use Rattle.nif_stream.specs.Taking as taking;
 ghost use Rattle.nif_decode.specs.Answers.{stand};
 ghost use Rattle.nif_decode.specs.Lines.{AddsLine, DecodesLine};

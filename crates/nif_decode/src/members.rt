@@ -3,7 +3,7 @@ ghost use Rattle.std.specs.Prelude.{◌≡◌, ◌≤◌, ◌<◌, length, Some,
 ghost use Rattle.nif_base.specs.Node.{Members};
 ghost use Rattle.nif_schema.specs.Declaration.{field};
 ghost use Rattle.nif_schema.specs.Schema.{line};
-ghost use Rattle.nif_layout.specs.Fault.{most_nodes};
+ghost use Rattle.nif_base.specs.Limits.{most_nodes};
 ghost use Rattle.nif_layout.specs.Laws.{IsOpenType};
 ghost use Rattle.nif_stream.specs.Taking as taking;
 ghost use Rattle.nif_decode.specs.Decodes.{DecodesMembers, IsGroupType, context_for};
@@ -12,12 +12,13 @@ ghost use Rattle.nif_decode.specs.Answers.{IsReadyTaker, stand};
 ghost use Rattle.nif_decode.specs.MembersSoFar.{HoldsAt, MembersAnswers};
 ghost use Rattle.nif_scope.specs.Scope.{IsSetting};
 
-use crate::decode::{DEEPEST, owner_of};
+use crate::decode::owner_of;
 use crate::faults::{Bounds, ValueFault};
 use crate::scope::Scope;
 use crate::takes::take_nothing;
 use crate::values::read_member;
 use nif_base::Source;
+use nif_base::limits::MOST_DEPTH;
 use nif_schema::{Context, Field, Schema};
 use nif_scope::{Entry, Setting, ValueContext};
 use nif_stream::Taker;
@@ -66,7 +67,7 @@ fn read_members<S: Source>(
 {
     for place in from..to {
         let of = field_at(at.schema, at.number, place);
-        match read_member(alloc, at, of, DEEPEST - 1, taker, store, nodes, told) {
+        match read_member(alloc, at, of, MOST_DEPTH - 1, taker, store, nodes, told) {
             Ok(()) => {}
             Err(fault) => return Err(fault),
         }

@@ -8,7 +8,8 @@ use Rattle.nif_schema.specs.Declaration.{Field}
 use Rattle.nif_schema.specs.Schema.{Schema}
 use Rattle.nif_layout.specs.Earlier.{Env, behind}
 use Rattle.nif_layout.specs.Fault as plain
-use Rattle.nif_layout.specs.Fault.{Fault, Point, Passes, one_more, most_bytes, most_nodes}
+use Rattle.nif_base.specs.Limits.{most_file_bytes, most_nodes}
+use Rattle.nif_layout.specs.Fault.{Fault, Point, Passes, one_more}
 use Rattle.nif_layout.specs.Fails.{LineFails}
 use Rattle.nif_stream.specs.declared.takers.Taker.{Taker}
 use Rattle.nif_stream.specs.Taking.{Takes, source_of, place_of, left_of, bytes_of}
@@ -169,7 +170,7 @@ module _ {S : Type 0} (left : S → Option (List ℕ)) (still : S → S → Type
         there : (rest : List ℕ) → left_of left now ≡ Some rest → StopsThere schema stop.fault (left (source_of now)) ((bytes ++ more) ++ rest)
         there rest told =
             let whole : place_of now ≡ length (bytes ++ more) = omega (arith, takes.place) in
-            let within : place_of now ≤ most_bytes = takes.within in
+            let within : place_of now ≤ most_file_bytes = takes.within in
             let l : length (bytes ++ more) ≡ length bytes + length more = length-append bytes more in
             let most : counted + nodes_in one ≤ most_nodes = omega arith in
             let passes = passes_more schema bytes more counted (nodes_in one) rest (omega arith) most in

@@ -14,7 +14,8 @@ use Rattle.nif_layout.specs.Earlier.{Earlier, Env, behind, passed}
 use Rattle.nif_layout.specs.Laws.{IsOpenType}
 use Rattle.nif_layout.specs.Shape.{LineShape}
 use Rattle.nif_layout.specs.Members.{no_check}
-use Rattle.nif_layout.specs.Fault.{Fault, Point, most_bytes}
+use Rattle.nif_base.specs.Limits.{most_file_bytes}
+use Rattle.nif_layout.specs.Fault.{Fault, Point}
 use Rattle.nif_layout.specs.PathValue.{number_in}
 use Rattle.nif_stream.specs.declared.takers.Taker.{Taker}
 use Rattle.nif_stream.specs.Taking.{Takes, place_of}
@@ -106,7 +107,7 @@ module _ {T : Type 0} (src : T → Option (List ℕ)) (still : T → T → Type 
     takes : Takes src still faults start (st.bytes ++ bytes) now
     takes = takes_joined src still faults start old now st.bytes bytes (st.bytes ++ bytes) st.takes d.takes refl
 
-    few : length st.bytes + length bytes ≤ most_bytes
+    few : length st.bytes + length bytes ≤ most_file_bytes
     few = omega (arith, d.takes.place, d.takes.within, place)
 
     pub noted : IsNoted S header k E f got now_entries head

@@ -23,8 +23,9 @@ use Rattle.nif_file.specs.Stops.{Stop, of_value}
 use Rattle.nif_file.specs.FirstLine.{line_version}
 use Rattle.nif_file.specs.Sizes.{size, size_in, size_of_fields}
 use Rattle.nif_file.specs.Head.{header_context, file_context, block_context, order_in, version_in, number_of, bs_version, index_word, line_in}
-use Rattle.nif_file.specs.Checks.{most_blocks, most_types, highest_bs, line_fault, refuse_where, member_fault, header_check}
-use Rattle.nif_file.specs.Files.{most_depth, header_line, head_of, header_text, has_zero_word, zero_word, name_of, name_where, block_kind, block_text, footer_kind}
+use Rattle.nif_base.specs.Limits.{most_blocks, most_types, highest_bs, most_depth}
+use Rattle.nif_file.specs.Checks.{line_fault, refuse_where, member_fault, header_check}
+use Rattle.nif_file.specs.Files.{header_line, head_of, header_text, has_zero_word, zero_word, name_of, name_where, block_kind, block_text, footer_kind}
 use Rattle.nif_file.specs.FileFails.{PartFails, KindRefused, NameRefused, TypeFailsBy, ZeroFailsBy, ValueFails, FrameFails, BlockFails, BlocksRead, BlocksFail, FooterFails, BodyFails, RestFails, HeaderReads, start_of, FileStops, sized_needs}
 use Rattle.nif_file.specs.FileLaws.{KnownWithin}
 use Rattle.nif_file.proofs.Walks.{none_some, some_same}

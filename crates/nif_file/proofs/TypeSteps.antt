@@ -14,12 +14,14 @@ use Rattle.nif_schema.specs.Schema.{Schema, find, find_block, has_block}
 use Rattle.nif_schema.specs.Reasons.{IsOpen, IsReason}
 use Rattle.nif_schema.specs.declared.faults.Closed.{Closed}
 use Rattle.nif_layout.specs.Earlier.{Env}
-use Rattle.nif_layout.specs.Fault.{Point, Passes, most_bytes}
+use Rattle.nif_base.specs.Limits.{most_file_bytes}
+use Rattle.nif_layout.specs.Fault.{Point, Passes}
 use Rattle.nif_layout.specs.LeafFault.{number_at}
-use Rattle.nif_layout.proofs.Passing.{one_point}
-use Rattle.nif_layout.proofs.Bytes.{length_number, number_front, same_front}
-use Rattle.nif_layout.proofs.Leaves.{number_again}
-use Rattle.nif_layout.proofs.DecideLeaves.{Enough, enough, skip, passes_skip, number_taken}
+use Rattle.nif_layout.specs.PassLaws.{one_point}
+use Rattle.nif_layout.specs.ByteLaws.{length_number, number_front, same_front}
+use Rattle.nif_layout.specs.ByteLaws.{number_again}
+use Rattle.nif_layout.specs.ByteLaws.{number_taken}
+use Rattle.nif_layout.specs.RoomLaws.{Enough, enough, skip, passes_skip}
 use Rattle.nif_file.specs.declared.faults.FileFault.TheVariants as file
 use Rattle.nif_file.specs.Stops.{Stop, of_value}
 use Rattle.nif_file.specs.Head.{order_in, type_names, index_word, type_place}
@@ -126,7 +128,7 @@ short_name : (order : Order) (name : Name) (n : ℕ) (at next : Point) → Passe
 short_name order name n at next p =
     let l = length_sized order name in
     let pl : next.place ≡ at.place + length (sized_string order name) = p.place in
-    let w : next.place ≤ most_bytes = p.within in
+    let w : next.place ≤ most_file_bytes = p.within in
     omega arith
 
 front : (order : Order) (name : Name) (n : ℕ) (at next : Point) → Passes (sized_string order name) n at next
@@ -150,7 +152,7 @@ needs order name n at next p =
     e ∙ ap (λ m. 4 + m) v ∙ sym l
 
 -- where its bytes are there, it is read
-sized_read : (order : Order) (at : Point) → Within at → (b : Bool) → ltb (length at.left) 4 ≡ b → sized_needs order at.left ≤ length at.left → at.place + sized_needs order at.left ≤ most_bytes
+sized_read : (order : Order) (at : Point) → Within at → (b : Bool) → ltb (length at.left) 4 ≡ b → sized_needs order at.left ≤ length at.left → at.place + sized_needs order at.left ≤ most_file_bytes
     → (name : Name) × (next : Point) × Passes (sized_string order name) 0 at next
 sized_read order at w true short there within =
     let lt = ltb-true (length at.left) 4 short in

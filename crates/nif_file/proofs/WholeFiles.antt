@@ -9,11 +9,12 @@ use Rattle.nif_schema.specs.Schema.{Schema, IsSchema, line}
 use Rattle.nif_schema.specs.Roles.{Roles, IsRoot}
 use Rattle.nif_layout.specs.Earlier.{Env}
 use Rattle.nif_layout.specs.Leaf.{AreBytes}
-use Rattle.nif_layout.specs.Fault.{Point, Passes, most_bytes, most_nodes}
+use Rattle.nif_base.specs.Limits.{most_file_bytes, most_nodes}
+use Rattle.nif_layout.specs.Fault.{Point, Passes}
 use Rattle.nif_layout.specs.Shape.{LineShape}
 use Rattle.nif_layout.specs.Fails.{LineFails}
 use Rattle.nif_layout.specs.Laws.{AllFit, ExactlyOne, line_text}
-use Rattle.nif_layout.proofs.Passing.{split, join}
+use Rattle.nif_layout.specs.PassLaws.{split, join}
 use Rattle.nif_file.specs.Stops.{Stop, of_value}
 use Rattle.nif_file.specs.Head.{header_context, order_in, number_of}
 use Rattle.nif_file.specs.Checks.{header_check, types_fault}
@@ -59,7 +60,7 @@ file_sound spelled one_value line_spelled one_line S is roles total =
 
 -- ---- blocks as one text
 
-pub blocks_join : (S : Schema) (E : Env) (n k : ℕ) (blocks : List Block) (at next : Point) → at.place ≤ most_bytes → at.nodes ≤ most_nodes → BlocksRead S E k n blocks at next
+pub blocks_join : (S : Schema) (E : Env) (n k : ℕ) (blocks : List Block) (at next : Point) → at.place ≤ most_file_bytes → at.nodes ≤ most_nodes → BlocksRead S E k n blocks at next
     → (length blocks ≡ n) × AreBlocks S E k blocks × Passes (blocks_text S E k blocks) (block_nodes blocks) at next
 blocks_join S E zero k blocks at next place few r =
     let none : Passes [] 0 at at = record { here = refl; place = omega arith; nodes = omega arith; within = place; counted = few } in
@@ -111,7 +112,7 @@ to_file S z bytes next r =
     let spelled : bytes ≡ text_of S (file_of z) = whole.here ∙ ap (λ l. text_of S (file_of z) ++ l) last.0 ∙ append-nil (text_of S (file_of z)) in
     let place : end.place ≡ 0 + length (text_of S (file_of z)) = whole.place in
     let count : end.nodes ≡ 1 + (nodes_in members + (block_nodes blocks + nodes footer)) = whole.nodes in
-    let within : end.place ≤ most_bytes = whole.within in
+    let within : end.place ≤ most_file_bytes = whole.within in
     let few : end.nodes ≤ most_nodes = whole.counted in
     let long : length bytes ≡ length (text_of S (file_of z)) = ap length spelled in
     record {

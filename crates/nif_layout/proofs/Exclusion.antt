@@ -17,7 +17,8 @@ use Rattle.nif_layout.specs.Fails.{Counted, ItemsFail, FormFails, GroupFails, Fa
 use Rattle.nif_layout.specs.Laws.{Fits}
 use Rattle.nif_layout.proofs.Cancel.{Cancels, same_text, form_cancel, shape_cancel, form_shape_cancel}
 use Rattle.nif_layout.proofs.Exclusive.{Excludes, AllExclude, OneFault, counted_one, counted_excludes, fields_exclude, fields_one, items_exclude, items_one}
-use Rattle.nif_layout.proofs.Leaves.{leaf_excludes, leaf_one, no_shortage, some_inj}
+use Rattle.nif_layout.specs.RoomLaws.{no_shortage}
+use Rattle.nif_layout.proofs.Leaves.{leaf_excludes, leaf_one, some_inj}
 
 pub form_excludes : (order : Order) (V : Kind → Node → Type 0) (F : Kind → Point → Fault → Type 0)
     → ((k : Kind) → Cancels order (V k) (V k)) → ((k : Kind) → Excludes order (V k) (F k))

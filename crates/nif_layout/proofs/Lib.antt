@@ -1,6 +1,4 @@
-pub mod Bytes
 pub mod Cancel
-pub mod Passing
 pub mod Exclusive
 pub mod Leaves
 pub mod Exclusion

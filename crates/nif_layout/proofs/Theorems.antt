@@ -9,7 +9,8 @@ use Rattle.nif_layout.specs.Earlier.{Env}
 use Rattle.nif_layout.specs.Kind.{kind_of}
 use Rattle.nif_layout.specs.Form.{Form, form_of}
 use Rattle.nif_layout.specs.Leaf.{AreBytes}
-use Rattle.nif_layout.specs.Fault.{Fault, Point, Passes, most_bytes, most_nodes}
+use Rattle.nif_base.specs.Limits.{most_file_bytes, most_nodes}
+use Rattle.nif_layout.specs.Fault.{Fault, Point, Passes}
 use Rattle.nif_layout.specs.Members.{Check}
 use Rattle.nif_layout.specs.Shape.{Shape, FormShape, LineShape}
 use Rattle.nif_layout.specs.Fails.{Fails, FormShapeFails, LineFails}
@@ -57,7 +58,7 @@ passed_stands : (bytes : List ℕ) (p n : ℕ) (front : List ℕ) (count : ℕ) 
 passed_stands bytes p n front count next h =
     let place : next.place ≡ p + length front = h.place in
     let number : next.nodes ≡ n + count = h.nodes in
-    let w : next.place ≤ most_bytes = h.within in
+    let w : next.place ≤ most_file_bytes = h.within in
     let c : next.nodes ≤ most_nodes = h.counted in
     record { rest = next.left; here = h.here; within = omega arith; counted = omega arith }
 

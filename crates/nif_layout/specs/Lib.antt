@@ -12,3 +12,6 @@ pub mod LeafFault
 pub mod Fails
 pub mod Laws
 pub mod Defined
+pub mod PassLaws
+pub mod ByteLaws
+pub mod RoomLaws

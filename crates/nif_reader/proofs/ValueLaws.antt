@@ -25,7 +25,8 @@ use Rattle.nif_file.specs.declared.header.Header.{Header}
 use Rattle.nif_file.specs.Stops.{of_value}
 use Rattle.nif_file.specs.HeaderReading.{fault_of}
 use Rattle.nif_file.specs.Head.{block_context, file_context, order_in, version_in}
-use Rattle.nif_file.specs.Files.{IsBlockType, block_kind, footer_kind, head_of, most_depth}
+use Rattle.nif_base.specs.Limits.{most_depth}
+use Rattle.nif_file.specs.Files.{IsBlockType, block_kind, footer_kind, head_of}
 use Rattle.nif_file.proofs.Walks.{some_same}
 use Rattle.nif_reader.specs.Halting.{Halts}
 use Rattle.nif_reader.specs.Known.{Knows, ReadsFooter, ReadsValue}

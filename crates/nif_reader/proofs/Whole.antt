@@ -14,7 +14,8 @@ use Rattle.nif_stream.specs.Taking.{Takes, source_of, place_of, left_of}
 use Rattle.nif_stream.specs.TakerLaws.{takes_joined}
 use Rattle.nif_layout.specs.Context.{Context}
 use Rattle.nif_layout.specs.Earlier.{Env}
-use Rattle.nif_layout.specs.Fault.{Point, most_nodes}
+use Rattle.nif_base.specs.Limits.{most_nodes}
+use Rattle.nif_layout.specs.Fault.{Point}
 use Rattle.nif_decode.specs.Answers.{Went}
 use Rattle.nif_value.specs.Trees.{Trees}
 use Rattle.nif_value.specs.declared.stores.TreeId.{TreeId}
