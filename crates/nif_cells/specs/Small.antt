@@ -1,5 +1,5 @@
 -- What cells have room for: bytes below 256, and numbers below those of their parts.
-use Rattle.std.specs.Prelude.{◌<◌, ◌^◌, ◌≤◌, All}
+use Rattle.std.specs.Prelude.{◌<◌, ◌≤◌, All}
 use Rattle.nif_base.specs.Limits.{most_file_bytes, most_nodes}
 use Rattle.nif_base.specs.Node.{Node, Members, Num, Line, Ref, Text, Bytes, Group, Row, End, Here, Absent, nodes}
 use Rattle.nif_cells.specs.Building.{bytes_of}
