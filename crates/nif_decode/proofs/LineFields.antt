@@ -6,7 +6,7 @@ use Rattle.nif_schema.specs.Schema.{Schema, Ends, ancestor}
 use Rattle.nif_schema.specs.Uses.{Here}
 use Rattle.nif_schema.specs.Reasons.{has_no_root}
 use Rattle.nif_layout.specs.Laws.{IsOpenType}
-use Rattle.nif_layout.proofs.OpenTypes.{declared, own_facts}
+use Rattle.nif_layout.specs.OpenTypeLaws.{declared, own_facts}
 
 none_of : {A : Type 0} (o : Option A) → is_some o ≡ false → o ≡ None
 none_of None e = refl

@@ -42,10 +42,11 @@ use Rattle.nif_file.specs.Heads.{IsHead, IsNext, IsPart, context_of}
 use Rattle.nif_file.specs.HeaderReading.{HasNoHeader, IsNoted, Notes, StandsAt, fault_of}
 use Rattle.nif_file.proofs.KnownFiles.{member_known}
 use Rattle.nif_file.proofs.Walks.{none_some, some_same}
-use Rattle.nif_file.proofs.HeadNumbers.{root_within}
+use Rattle.nif_file.specs.RoleLaws.{root_within}
 use Rattle.nif_file.proofs.FieldPlaces.{drop_at}
 use Rattle.nif_file.proofs.MemberReading.{one_member, member_fails, part_step}
-use Rattle.nif_file.proofs.HeaderEnds.{went_whole, value_ends, check_ends, next_size}
+use Rattle.nif_decode.specs.WentLaws.{went_whole}
+use Rattle.nif_file.proofs.HeaderEnds.{value_ends, check_ends, next_size}
 use Rattle.nif_file.proofs.LineReading.{member_other}
 use Rattle.nif_file.proofs.Noting.{next_at}
 

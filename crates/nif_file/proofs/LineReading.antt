@@ -45,8 +45,9 @@ use Rattle.nif_file.specs.Files.{header_line, head_of}
 use Rattle.nif_file.specs.HeaderParts.{with_members}
 use Rattle.nif_file.specs.Heads.{IsHead, IsNext, IsPart}
 use Rattle.nif_file.specs.HeaderReading.{HasNoHeader, StandsAt, fault_of}
-use Rattle.nif_file.proofs.HeadNumbers.{left, right, header_line_is, of_basic, basic_by, own_leaf, found_declared, single_form, own_kind}
-use Rattle.nif_file.proofs.KnownFiles.{bare_present, no_value}
+use Rattle.nif_file.specs.RoleLaws.{left, right, header_line_is, of_basic, basic_by, own_leaf, found_declared, own_kind}
+use Rattle.nif_file.proofs.HeadNumbers.{single_form}
+use Rattle.nif_file.specs.RoleLaws.{bare_present, no_value}
 use Rattle.nif_file.proofs.Walks.{none_some, some_same}
 use Rattle.nif_file.proofs.MemberReading.{part_step}
 use Rattle.nif_file.proofs.HeaderEnds.{value_ends, check_ends}

@@ -30,27 +30,9 @@ use Rattle.nif_file.specs.FileFails.{PartFails, sized_needs, KindRefused, NameRe
 use Rattle.nif_file.proofs.Walks.{Within, Sound, within_behind, none_some, some_same}
 use Rattle.nif_file.proofs.Pieces.{passes_none, part_excludes, part_one}
 use Rattle.nif_file.proofs.ReasonCases.{not_open, one_reason, open_or_closed}
+use Rattle.nif_file.specs.NameLaws.{block_name, found_by, found_name, found_number}
 
 -- ---- names of types
-
-found_by : (b : Bool) (n kind : ℕ) → (if b then Some n else None) ≡ Some kind → n ≡ kind
-found_by true n kind e = cc
-found_by false n kind e = absurd (cc)
-
-found_number : (S : Schema) (o : Option ℕ) (kind : ℕ) → option_and_then (λ number. if has_block S number then Some number else None) o ≡ Some kind → o ≡ Some kind
-found_number S None kind e = absurd (cc)
-found_number S (Some n) kind e = ap (λ m. Some m) (found_by (has_block S n) n kind e)
-
--- a declaration that is found has the name
-pub found_name : (S : Schema) (name : Name) (n : ℕ) → find S name ≡ Some n → name_of S n ≡ name
-found_name [] name n e = absurd (cc)
-found_name (d ∷ S) name n e =
-    let at = position-Some (λ x. bytes_eq name x.name) (d ∷ S) n d e in
-    let same : name ≡ (get_or (d ∷ S) n d).name = (bytes_eq-Decides name (get_or (d ∷ S) n d).name).0 at.1 in
-    ap (λ o. option_map_or (λ x. x.name) o []) (slice_get-get_or (d ∷ S) n d at.0) ∙ sym same
-
-pub block_name : (S : Schema) (name : Name) (kind : ℕ) → find_block S name ≡ Some kind → name_of S kind ≡ name
-block_name S name kind e = found_name S name kind (found_number S (find S name) kind e)
 
 -- ---- a type is refused, or it is one of blocks
 

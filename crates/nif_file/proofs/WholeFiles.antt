@@ -24,7 +24,9 @@ use Rattle.nif_file.specs.FileLaws.{FileOrFault, OneFile, OnePlace}
 use Rattle.nif_file.proofs.Walks.{Within, Sound, Then, ThenFails, Unless, chain}
 use Rattle.nif_file.proofs.ValueSteps.{Spelled, OneValue, LineSpelled, OneOfLine, line_sound, no_template}
 use Rattle.nif_file.proofs.BlockSteps.{Body, rest_sound}
-use Rattle.nif_file.proofs.HeadNumbers.{root_within, head_fits}
+use Rattle.nif_file.specs.RoleLaws.{root_within}
+use Rattle.nif_file.proofs.HeadNumbers.{head_fits}
+use Rattle.nif_file.specs.BlockLaws.{blocks_split}
 
 abbrev pub Parts : Type 0
 Parts = Members × (List Block × (Node × Unit {0}))
@@ -78,17 +80,6 @@ blocks_join S E (suc n) k blocks at next place few r =
       (here.0, later.1),
       join (block_text S E k block) (blocks_text S E (k + 1) rest) (nodes block.node) (block_nodes rest) at mid next here.1 later.2,
     )
-
-pub blocks_split : (S : Schema) (E : Env) (blocks : List Block) (k : ℕ) (at next : Point) → AreBlocks S E k blocks → Passes (blocks_text S E k blocks) (block_nodes blocks) at next
-    → BlocksRead S E k (length blocks) blocks at next
-blocks_split S E [] k at next are p =
-    let place : next.place ≡ at.place = omega (arith, p.place) in
-    let number : next.nodes ≡ at.nodes = omega (arith, p.nodes) in
-    let left : next.left ≡ at.left = sym p.here in
-    (refl, λ i. record { nodes = number i; place = place i; left = left i })
-blocks_split S E (block ∷ blocks) k at next are p =
-    let s = split (block_text S E k block) (blocks_text S E (k + 1) blocks) (nodes block.node) (block_nodes blocks) at next p in
-    (block, blocks, s.0, refl, (are.0, s.1), blocks_split S E blocks (k + 1) s.0 next are.1 s.2)
 
 -- ---- the whole as one text
 

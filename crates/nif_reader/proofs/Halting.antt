@@ -15,7 +15,8 @@ use Rattle.nif_file.specs.declared.faults.FileFault.{FileFault}
 use Rattle.nif_file.specs.declared.faults.FileFault.TheVariants as file
 use Rattle.nif_file.specs.Stops.{Stop, of_value}
 use Rattle.nif_file.specs.HeaderReading.{fault_of}
-use Rattle.nif_file.proofs.HeaderEnds.{fault_value, fault_read, went_on, went_whole}
+use Rattle.nif_decode.specs.WentLaws.{went_on, went_whole}
+use Rattle.nif_file.specs.FaultLaws.{fault_value, fault_read}
 use Rattle.nif_reader.specs.Halting.{Part, StopsHere, Halts}
 
 -- these bytes, taken, lead from a point to the next one

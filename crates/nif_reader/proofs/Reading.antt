@@ -14,7 +14,7 @@ use Rattle.nif_base.specs.Limits.{most_nodes, most_depth}
 use Rattle.nif_layout.specs.Fault.{Point}
 use Rattle.nif_layout.specs.Fails.{Fails, Lifted}
 use Rattle.nif_decode.specs.Answers.{IsReadyTaker, Went}
-use Rattle.nif_file.proofs.HeaderEnds.{went_on, went_whole}
+use Rattle.nif_decode.specs.WentLaws.{went_on, went_whole}
 use Rattle.nif_value.specs.Trees.{Trees}
 use Rattle.nif_graph.specs.declared.parts.BlockPart.{BlockPart}
 use Rattle.nif_lists.specs.Lists.{Listed, entry_of}

@@ -25,7 +25,7 @@ use Rattle.nif_file.specs.Stops.{Stop, of_value}
 use Rattle.nif_file.specs.Head.{file_context, order_in, number_of}
 use Rattle.nif_file.specs.Files.{AreBlocks, blocks_text, block_nodes, footer_kind, head_of}
 use Rattle.nif_file.specs.FileFails.{BlocksRead, BlocksFail, BodyFails, IsTrailing}
-use Rattle.nif_file.proofs.WholeFiles.{blocks_split}
+use Rattle.nif_file.specs.BlockLaws.{blocks_split}
 use Rattle.nif_reader.specs.Halting.{Halts}
 use Rattle.nif_reader.specs.Known.{Knows, HasBlocks, HasRest, ReadsFooter, block_trees}
 use Rattle.nif_reader.proofs.Halting.{halts_also, halts_behind}

@@ -34,8 +34,9 @@ use Rattle.nif_graph.specs.declared.places.RolePlaces.{RolePlaces}
 use Rattle.nif_file.specs.Heads.{ArePlaces}
 use Rattle.nif_file.specs.HeaderReading.{HasHeader, HasNoHeader, StopsThere}
 use Rattle.nif_file.specs.PartsSay.{SaysBlocks, SaysContext, SaysFile}
-use Rattle.nif_file.proofs.SizeLaws.{size_is_length}
-use Rattle.nif_file.proofs.HeaderEnds.{header_stops_file, went_whole}
+use Rattle.nif_file.specs.LengthLaws.{size_is_length}
+use Rattle.nif_decode.specs.WentLaws.{went_whole}
+use Rattle.nif_file.specs.FaultLaws.{header_stops_file}
 use Rattle.nif_reader.specs.Halting.{StopsHere, Halts}
 use Rattle.nif_reader.specs.Known.{Knows, HasRest, block_trees}
 use Rattle.nif_reader.specs.Answers.{HasFault, HasFile, HasNoFile, HoldsFile}

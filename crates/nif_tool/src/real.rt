@@ -143,6 +143,8 @@ impl<R: Files> Shelf for RealShelf<'_, R> {
 
     ghost still_opens = { λ a b p. p.opens };
 
+    ghost grew_left = { λ a b x p. p.left };
+
     ghost grew_desk = { λ a b x p. p.desk };
 
     ghost grew_refused = { λ a b x p. p.refused };

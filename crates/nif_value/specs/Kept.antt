@@ -1,5 +1,5 @@
 -- How a store keeps its trees: each in the cells of a run of a region.
-use Rattle.std.specs.Prelude.{ℕ, ◌+◌, ◌*◌, ◌≤◌, ◌≡◌, ◌^◌, List, [], ◌∷◌, map, min, drop, Option, None, Some, if◌then◌else◌, nat_lt, IfSome}
+use Rattle.std.specs.Prelude.{ℕ, ◌+◌, ◌*◌, ◌≤◌, ◌≡◌, List, [], ◌∷◌, map, min, drop, Option, None, Some, if◌then◌else◌, nat_lt, IfSome}
 use Rattle.std.specs.Option.{option_map}
 use Rattle.nif_base.specs.Limits.{most_file_bytes, most_nodes}
 use Rattle.nif_base.specs.Node.{Node, low_first, nodes}

@@ -1,5 +1,5 @@
 -- What a store holds: trees of nodes under keys, and the tree that is being built.
-use Rattle.std.specs.Prelude.{ℕ, ◌+◌, ◌*◌, ◌/◌, ◌^◌, ◌≤◌, ◌≡◌, ◌≢◌, ◌⊎◌, List, [], ◌∷◌, length, Option, None, Some, IsSome, IsSomeAnd, ◌++◌}
+use Rattle.std.specs.Prelude.{ℕ, ◌+◌, ◌*◌, ◌/◌, ◌≤◌, ◌≡◌, ◌≢◌, ◌⊎◌, List, [], ◌∷◌, length, Option, None, Some, IsSome, IsSomeAnd, ◌++◌}
 use Rattle.std.specs.Option.{option_map}
 use Rattle.nif_base.specs.Limits.{most_file_bytes, most_nodes}
 use Rattle.nif_base.specs.Node.{Node, Reference, nodes}

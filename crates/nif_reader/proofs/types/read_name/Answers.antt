@@ -8,7 +8,7 @@ use Rattle.nif_base.specs.Limits.{most_nodes}
 use Rattle.nif_file.specs.Head.{order_in}
 use Rattle.nif_file.specs.Files.{IsBlockType, head_of, name_of, sized_string}
 use Rattle.nif_file.specs.FileFails.{NameFails, PartFails, sized_needs}
-use Rattle.nif_file.proofs.TypeSteps.{block_name}
+use Rattle.nif_file.specs.NameLaws.{block_name}
 use Rattle.nif_reader.specs.Halting.{Halts}
 use Rattle.nif_reader.specs.Types.{RefusesName}
 use Rattle.nif_reader.proofs.Halting.{halts_also}

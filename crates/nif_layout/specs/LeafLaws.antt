@@ -9,8 +9,8 @@ use Rattle.nif_layout.specs.LeafFault.{leaf_fault, shortage, newline, line_needs
 use Rattle.nif_layout.specs.Fails.{LeafFails}
 use Rattle.nif_layout.specs.Laws.{Fits}
 use Rattle.nif_layout.specs.ByteLaws.{length_number}
-use Rattle.nif_layout.proofs.Cancel.{place_fits}
-use Rattle.nif_layout.proofs.Exclusive.{Excludes, OneFault, counted_one, counted_excludes}
+use Rattle.nif_layout.specs.CancelLaws.{place_fits}
+use Rattle.nif_layout.specs.ExclusiveLaws.{Excludes, OneFault, counted_one, counted_excludes}
 use Rattle.nif_layout.specs.ByteLaws.{number_again}
 use Rattle.nif_layout.specs.RoomLaws.{no_shortage}
 

@@ -8,7 +8,7 @@ use Rattle.nif_base.specs.Limits.{most_nodes}
 use Rattle.nif_layout.specs.Fault.{Fault, Point, Passes, Reads, one_more}
 use Rattle.nif_layout.specs.Members.{Member, Check, Fields, Items, member_text, fields_text}
 use Rattle.nif_layout.specs.Fails.{Counted, MemberFails, FieldsFail, ItemsFail}
-use Rattle.nif_layout.proofs.Cancel.{in_one_order, Cancels}
+use Rattle.nif_layout.specs.CancelLaws.{in_one_order, Cancels}
 use Rattle.nif_layout.specs.PassLaws.{split, count_in, one_point}
 
 -- What is read doesn't fail.

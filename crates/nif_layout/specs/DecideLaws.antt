@@ -9,9 +9,9 @@ use Rattle.nif_base.specs.Limits.{most_file_bytes, most_nodes}
 use Rattle.nif_layout.specs.Fault.{Fault, TooManyNodes, Point, Passes, Reads, one_more}
 use Rattle.nif_layout.specs.Members.{Member, Check, Fields, Items, member_text, fields_text}
 use Rattle.nif_layout.specs.Fails.{MemberFails, FieldsFail, ItemsFail}
-use Rattle.nif_layout.proofs.Cancel.{in_one_order}
+use Rattle.nif_layout.specs.CancelLaws.{in_one_order}
 use Rattle.nif_layout.specs.PassLaws.{join, count_out}
-use Rattle.nif_layout.proofs.Exclusive.{RefusedOr}
+use Rattle.nif_layout.specs.ExclusiveLaws.{RefusedOr}
 use Rattle.nif_layout.specs.ByteLaws.{bytes_behind}
 
 -- A point within a file, whose nodes may be too many.

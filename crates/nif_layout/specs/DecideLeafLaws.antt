@@ -13,7 +13,7 @@ use Rattle.nif_layout.specs.Fault.{Fault, LineTooLong, RefRange, StringRange, To
 use Rattle.nif_layout.specs.LeafFault.{shortage, leaf_fault, newline, line_needs, line_fault, number_at, range_fault, or_else}
 use Rattle.nif_layout.specs.Fails.{Counted, LeafFails}
 use Rattle.nif_layout.specs.PassLaws.{count_out}
-use Rattle.nif_layout.proofs.Decide.{Within, Decides, Decided, counting, room}
+use Rattle.nif_layout.specs.DecideLaws.{Within, Decides, Decided, counting, room}
 use Rattle.nif_layout.specs.ByteLaws.{number_taken}
 use Rattle.nif_layout.specs.RoomLaws.{Enough, enough, passes_skip, skip}
 
