@@ -9,7 +9,6 @@ use Rattle.nif_stream.specs.declared.takers.TakeFault.TheVariants as take
 use Rattle.nif_stream.specs.Taking as taking
 use Rattle.nif_stream.specs.Taking.{source_of, place_of, left_of, ahead_of, IsSound, Takes, Misses, need_fault, line_end, asked_at}
 use Rattle.nif_layout.specs.Fault as plain
-use Rattle.nif_base.specs.Limits.{most_file_bytes}
 use Rattle.nif_layout.specs.Fault.{Fault, Point}
 use Rattle.nif_layout.specs.LeafFault.{shortage, newline, line_needs, line_fault, or_else}
 use Rattle.nif_base.specs.Outside.{Rose}
@@ -17,7 +16,7 @@ use Rattle.nif_cells.specs.Building.{Building}
 use Rattle.nif_scope.specs.declared.entries.Entry.{Entry}
 use Rattle.nif_decode.specs.Faults.{take_cause, IsGone}
 use Rattle.nif_decode.specs.Answers.{Ends, Stops, IsReadyTaker, line_ends}
-use Rattle.nif_decode.specs.PieceLaws.{need_no_line, plain_of, shortage_plain, tests_plain}
+use Rattle.nif_decode.specs.PieceLaws.{need_no_line, plain_of, shortage_plain}
 
 abbrev found_by : ℕ → ℕ → Option ℕ
 found_by k n = if nat_lt k n then Some k else None

@@ -1,19 +1,11 @@
 -- Pieces of a run of bytes.
-use Rattle.std.proofs.Common.{◌≡◌, ◌≢◌, ℕ, ◌+◌, ◌^◌, ◌<◌, ◌≤◌, Bool, true, false, if◌then◌else◌, ◌&&◌, List, [], ◌∷◌, ◌++◌, length, Option, Some, None, refl, sym, ap, ◌∙◌, subst, arith, length-append, ltb, ltb-true, lt-ltb, append_assoc, append-nil}
+use Rattle.std.proofs.Common.{◌≡◌, ℕ, ◌+◌, ◌^◌, ◌≤◌, Bool, true, false, List, [], ◌∷◌, ◌++◌, length, Option, Some, None, refl, sym, ap, ◌∙◌, subst, arith, length-append, append_assoc, append-nil}
 use Rattle.std.proofs.lemmas.List.{map-append}
 use Rattle.std.specs.Prelude.{IsSome}
-use Rattle.std.specs.Prelude.{IfSome, option_and_then, nat_lt}
-use Rattle.nif_base.specs.Outside.{prepended, Rose}
 use Rattle.nif_stream.specs.declared.takers.Taker.{Taker}
-use Rattle.nif_stream.specs.declared.takers.TakeFault.{TakeFault}
-use Rattle.nif_stream.specs.declared.takers.TakeFault.TheVariants as take
-use Rattle.nif_stream.specs.Taking.{source_of, place_of, left_of, Takes, Misses, need_fault, asked_at}
-use Rattle.nif_stream.specs.TakerLaws.{need_short, need_long, keeps_same, keeps_joined, prepended_none, takes_joined}
-use Rattle.nif_layout.specs.Fault as plain
-use Rattle.nif_base.specs.Limits.{most_file_bytes}
-use Rattle.nif_layout.specs.Fault.{Fault, Point}
-use Rattle.nif_layout.specs.LeafFault.{shortage}
-use Rattle.nif_cells.specs.Building.{Building, InBytes, lengthened, TakesBytes}
+use Rattle.nif_stream.specs.Taking.{place_of, left_of, Takes}
+use Rattle.nif_stream.specs.TakerLaws.{keeps_same, keeps_joined, prepended_none, takes_joined}
+use Rattle.nif_cells.specs.Building.{InBytes, lengthened, TakesBytes}
 use Rattle.nif_value.specs.Trees as trees
 use Rattle.nif_value.specs.Trees.{after}
 use Rattle.nif_layout.specs.Leaf.{AreBytes}
@@ -21,11 +13,7 @@ use Rattle.nif_layout.specs.PathValue.{extended}
 use Rattle.nif_layout.specs.ByteLaws.{bytes_append}
 use Rattle.nif_scope.specs.declared.entries.Entry.TheVariants as entry
 use Rattle.nif_decode.specs.Runs.{bytes_kept, HasRun, RunSoFar}
-use Rattle.nif_scope.specs.declared.entries.Entry.{Entry}
-use Rattle.nif_decode.specs.Faults.{take_cause, IsGone}
-use Rattle.nif_decode.specs.Answers.{Stand, Went, Ends, Stops, FailsThere}
-use Rattle.nif_decode.specs.PieceLaws.{plain_of, shortage_plain, need_no_line}
-use Rattle.nif_decode.specs.PieceLaws.{gone_all, gone_long, need_ended, need_is_long, need_is_short, need_whole, piece_ends, }}
+use Rattle.nif_decode.specs.Answers.{Stand, Went}
 
 -- ---- the run, piece by piece
 

@@ -7,7 +7,6 @@ use Rattle.nif_schema.specs.Declaration.{Field}
 use Rattle.nif_schema.specs.Schema.{Schema, has_block, line}
 use Rattle.nif_schema.specs.Uses.{is_generic, what_at}
 use Rattle.nif_schema.specs.declared.contexts.Context as code
-use Rattle.nif_schema.specs.declared.decls.What.{What}
 use Rattle.nif_schema.specs.declared.decls.What.TheVariants.{Struct}
 use Rattle.nif_stream.specs.declared.takers.Taker.{Taker}
 use Rattle.nif_stream.specs.Taking.{Takes, place_of}

@@ -1,5 +1,5 @@
 -- What a fault of the code says, and how much of the source is gone where it comes.
-use Rattle.std.specs.Prelude.{ℕ, ◌+◌, ◌^◌, ◌≤◌, List, length, IfSome}
+use Rattle.std.specs.Prelude.{ℕ, ◌+◌, ◌≤◌, List, length, IfSome}
 use Rattle.std.specs.declared.option.Option.{Option}
 use Rattle.nif_base.specs.Limits.{most_file_bytes}
 use Rattle.nif_stream.specs.declared.takers.TakeFault.{TakeFault}

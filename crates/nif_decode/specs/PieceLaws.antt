@@ -1,5 +1,5 @@
 -- Laws of bytes that are needed piece by piece: a piece that is not given is a fault of the whole.
-use Rattle.std.proofs.Common.{◌≡◌, ◌≢◌, ℕ, ◌+◌, ◌^◌, ◌<◌, ◌≤◌, Bool, true, false, if◌then◌else◌, ◌&&◌, List, [], length, take, Option, Some, None, refl, sym, ap, ◌∙◌, subst, arith, ltb, ltb-true, lt-ltb, ◌++◌, length-append}
+use Rattle.std.proofs.Common.{◌≡◌, ◌≢◌, ℕ, ◌+◌, ◌^◌, ◌<◌, ◌≤◌, Bool, true, false, if◌then◌else◌, ◌&&◌, List, length, Option, Some, None, refl, sym, ap, ◌∙◌, subst, arith, ltb, ltb-true, lt-ltb, ◌++◌, length-append}
 use Rattle.std.specs.Prelude.{IfSome, option_and_then, nat_lt}
 use Rattle.nif_stream.specs.declared.takers.Taker.{Taker}
 use Rattle.nif_stream.specs.declared.takers.TakeFault.{TakeFault}

@@ -48,6 +48,7 @@ pub fn decode_value<S: Source>(
     ensures strings { bounds.new.strings ≡ bounds.old.strings }
     ensures building { store.new.building ≡ None }
     ensures answers { Decodes S.left S.still S.read_faults schema.now (context_for schema.now context kind bounds.old) kind taker.old taker.new bounds.old.nodes bounds.new.nodes store.old store.new result }
+    ensures counted { bounds.new.nodes ≤ most_nodes }
 {
     match take_nothing(taker) {
         Ok(()) => {}

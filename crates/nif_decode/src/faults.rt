@@ -57,6 +57,7 @@ pub(crate) fn count(at: u64, nodes: &mut u32) -> Result<(), ValueFault>
     ensures ok { OnOk result (nodes.new ≡ nodes.old + 1) }
     ensures full { IfErr result (λ fault. most_nodes ≤ nodes.old) }
     ensures err { IfErr result (λ fault. fault ≡ ValueFault.TooManyNodes at) }
+    ensures within { nodes.old ≤ most_nodes → nodes.new ≤ most_nodes }
 {
     if *nodes >= MOST_NODES {
         return Err(ValueFault::TooManyNodes { at });

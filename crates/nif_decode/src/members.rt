@@ -64,6 +64,7 @@ fn read_members<S: Source>(
     ensures trees { store.new.trees ≡ store.old.trees }
     ensures answers { (held : Members) → HoldsAt at.now from (stand taker.old nodes.old store.old told.old.items) held
         → MembersAnswers S.left S.still S.read_faults at.now from to held (stand taker.old nodes.old store.old told.old.items) (stand taker.new nodes.new store.new told.new.items) result }
+    ensures counted { nodes.new ≤ most_nodes }
 {
     for place in from..to {
         let of = field_at(at.schema, at.number, place);
@@ -102,6 +103,7 @@ pub fn decode_members<S: Source>(
     ensures trees { store.new.trees ≡ store.old.trees }
     ensures answers { (held : Members) → HoldsMembers schema.now kind from scope.old store.old.building bounds.old.nodes (taking.place_of taker.old) held
         → DecodesMembers S.left S.still S.read_faults schema.now (context_for schema.now context kind bounds.old) kind from to held taker.old taker.new bounds.old.nodes bounds.new.nodes scope.new store.new result }
+    ensures counted { bounds.new.nodes ≤ most_nodes }
 {
     match take_nothing(taker) {
         Ok(()) => {}

@@ -1,5 +1,5 @@
 -- What was put so far, of bytes and of a node.
-use Rattle.std.proofs.Common.{ℕ, zero, suc, ◌+◌, ◌-◌, ◌^◌, ◌<◌, ◌≤◌, ◌≡◌, ◌≢◌, min, List, [], ◌∷◌, ◌++◌, length, take, drop, Option, None, Some, IsSome, IfSome, refl, sym, ◌∙◌, ap, subst, arith, append_assoc, append-nil}
+use Rattle.std.proofs.Common.{ℕ, suc, ◌+◌, ◌-◌, ◌^◌, ◌<◌, ◌≡◌, ◌≢◌, min, List, [], ◌∷◌, ◌++◌, length, take, drop, Option, None, Some, IsSome, IfSome, refl, sym, ◌∙◌, ap, subst, arith, append_assoc, append-nil}
 use Rattle.std.proofs.lemmas.List.{length-take}
 use Rattle.std.specs.Option.{option_map, IsSomeAnd}
 use Rattle.std.proofs.lemmas.List.{take_at, take-append-drop}
@@ -9,12 +9,10 @@ use Rattle.nif_stream.specs.Putting.{IsSound, Puts, Fails}
 use Rattle.nif_stream.specs.PutterLaws.{adds_none, puts_more, fails_more, fails_before}
 use Rattle.nif_base.specs.Node.{Node, Num, Line, Ref, Text, Bytes, Group, Row, text}
 use Rattle.nif_cells.specs.Walks.{Met, walk}
-use Rattle.nif_cells.specs.declared.steps.Step.{Step}
-use Rattle.nif_cells.specs.declared.steps.Step.TheVariants as step
 use Rattle.nif_value.specs.Walking.{step_of, walked}
 use Rattle.nif_encode.specs.Texts.{given, met_text, depth_after, where_open, one_text, many_text, behind_one, behind_many, text_at, member_text, some_text, HasMember, HasMembers}
 use Rattle.nif_encode.specs.TextLaws.{tree_text, some_ahead}
-use Rattle.nif_encode.specs.PutSteps.{IsPiece, Passes, closed, depth_more, fits_more, none_left, opened, passes_next, }}
+use Rattle.nif_encode.specs.PutSteps.{IsPiece, Passes, closed, depth_more, fits_more, none_left, opened}
 
 -- nothing was put
 pub puts_none : {K : Type 0} (grew : K → List ℕ → K → Type 0) (faults : K → ℕ) (a : Putter K) → IsSound a → Puts grew faults a [] a

@@ -1,6 +1,5 @@
 -- Steps of putting a walk: what was put so far and what is still to come make the whole.
 use Rattle.std.proofs.Common.{ℕ, zero, suc, ◌+◌, ◌^◌, ◌<◌, ◌≤◌, ◌≡◌, ◌≢◌, min, List, [], ◌∷◌, length, take, drop, Option, IsSome, refl, sym, ◌∙◌, ap, arith}
-use Rattle.nif_base.specs.Node.{Num, Line, Ref, Text, Bytes, Group, Row}
 use Rattle.nif_cells.specs.Walks.{Met}
 use Rattle.nif_cells.specs.declared.steps.Step.{Step}
 use Rattle.nif_value.specs.Walking.{step_of}
