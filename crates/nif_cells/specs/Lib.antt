@@ -7,3 +7,11 @@ pub mod Small
 pub mod Sizes
 pub mod Progress
 pub mod Laws
+pub mod PackLaws
+pub mod ReadLaws
+pub mod WalkLaws
+pub mod PlaceLaws
+pub mod TargetLaws
+pub mod SizeLaws
+pub mod OpenLaws
+pub mod CellLaws

@@ -1,5 +1,6 @@
 -- What cells have room for: bytes below 256, and numbers below those of their parts.
-use Rattle.std.specs.Prelude.{◌<◌, ◌^◌, ◌≤◌, All}
+use Rattle.std.specs.Prelude.{◌<◌, ◌≤◌, All}
+use Rattle.nif_base.specs.Limits.{most_file_bytes, most_nodes}
 use Rattle.nif_base.specs.Node.{Node, Members, Num, Line, Ref, Text, Bytes, Group, Row, End, Here, Absent, nodes}
 use Rattle.nif_cells.specs.Building.{bytes_of}
 
@@ -21,4 +22,4 @@ abbrev mutual
 
 -- so many nodes and bytes at most
 abbrev pub IsWithin : Node → Type 0
-IsWithin node = (nodes node ≤ 2 ^ 24) × (bytes_of node ≤ 2 ^ 26)
+IsWithin node = (nodes node ≤ most_nodes) × (bytes_of node ≤ most_file_bytes)

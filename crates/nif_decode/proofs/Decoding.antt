@@ -1,25 +1,26 @@
 -- The value of a type, from the group that is read.
-use Rattle.std.proofs.Common.{◌≡◌, ℕ, ◌+◌, ◌<◌, ◌≤◌, ◌⊎◌, inl, inr, Bool, true, false, if◌then◌else◌, List, [], ◌∷◌, ◌++◌, length, slice_get, Option, Some, None, refl, sym, ap, ◌∙◌, subst, arith, true≢false}
-use Rattle.std.specs.Prelude.{IfSome, IsSome, IsSomeAnd, option_and_then, ◌&&◌}
+use Rattle.std.proofs.Common.{◌≡◌, ℕ, ◌<◌, ◌≤◌, inl, inr, Bool, true, false, if◌then◌else◌, List, [], length, slice_get, Option, Some, None, refl, sym, ap, ◌∙◌, subst, arith, true≢false}
+use Rattle.std.specs.Prelude.{IfSome, option_and_then, ◌&&◌}
 use Rattle.std.specs.Option.{option_map_or}
 use Rattle.std.specs.List.{list_any}
-use Rattle.nif_base.specs.Node.{Node, text, nodes}
+use Rattle.nif_base.specs.Node.{Node, text}
 use Rattle.nif_schema.specs.Declaration.{Declaration, is_block}
 use Rattle.nif_schema.specs.Schema.{Schema, has_block, line}
-use Rattle.nif_schema.specs.Uses.{is_generic, what_at, is_struct, takes_template}
+use Rattle.nif_schema.specs.Uses.{is_generic, is_struct, takes_template}
 use Rattle.nif_schema.specs.declared.decls.What.{What}
 use Rattle.nif_schema.specs.declared.decls.What.TheVariants as what
 use Rattle.nif_schema.specs.declared.contexts.Context as code
 use Rattle.nif_decode.specs.declared.faults.Bounds.{Bounds}
 use Rattle.nif_stream.specs.declared.takers.Taker.{Taker}
-use Rattle.nif_stream.specs.Taking.{Takes, place_of}
-use Rattle.nif_stream.proofs.TakerLaws.{takes_joined}
+use Rattle.nif_stream.specs.Taking.{Takes}
+use Rattle.nif_stream.specs.TakerLaws.{takes_joined}
 use Rattle.nif_layout.specs.Context.{Context}
 use Rattle.nif_layout.specs.Kind as kind
 use Rattle.nif_layout.specs.Kind.{kind_of, kind_of_what}
 use Rattle.nif_layout.specs.Laws.{IsOpenType}
 use Rattle.nif_layout.specs.Shape.{Shape, IsGroup}
-use Rattle.nif_layout.specs.Fault.{Fault, Point, most_nodes}
+use Rattle.nif_base.specs.Limits.{most_nodes}
+use Rattle.nif_layout.specs.Fault.{Fault, Point}
 use Rattle.nif_layout.specs.Fails.{Fails, Counted, GroupFails}
 use Rattle.nif_cells.specs.Building.{Building, begun, placed}
 use Rattle.nif_region.specs.Contents.{find}
@@ -29,8 +30,8 @@ use Rattle.nif_scope.specs.declared.settings.Setting.{Setting}
 use Rattle.nif_scope.specs.declared.entries.Entry.{Entry}
 use Rattle.nif_scope.specs.Scope.{IsSetting, context_in}
 use Rattle.nif_decode.specs.declared.faults.ValueFault.{ValueFault}
-use Rattle.nif_decode.specs.Faults.{Cause, cause}
-use Rattle.nif_decode.specs.Answers.{Stand, Went, Ends, Stops, IsReady, Goes, ReadsNode, Ceases}
+use Rattle.nif_decode.specs.Faults.{cause}
+use Rattle.nif_decode.specs.Answers.{Stand, Ends, IsReady, ReadsNode, Ceases}
 use Rattle.nif_decode.specs.Groups.{GroupShape, GroupStops}
 use Rattle.nif_decode.specs.Decodes.{IsGroupType, owner_of, Decoded, Refused}
 use Rattle.nif_decode.proofs.Nothing.{nothing_stops}

@@ -9,31 +9,14 @@ use Rattle.nif_stream.specs.declared.takers.TakeFault.TheVariants as take
 use Rattle.nif_stream.specs.Taking as taking
 use Rattle.nif_stream.specs.Taking.{source_of, place_of, left_of, ahead_of, IsSound, Takes, Misses, need_fault, line_end, asked_at}
 use Rattle.nif_layout.specs.Fault as plain
-use Rattle.nif_layout.specs.Fault.{Fault, Point, most_bytes}
+use Rattle.nif_layout.specs.Fault.{Fault, Point}
 use Rattle.nif_layout.specs.LeafFault.{shortage, newline, line_needs, line_fault, or_else}
 use Rattle.nif_base.specs.Outside.{Rose}
 use Rattle.nif_cells.specs.Building.{Building}
 use Rattle.nif_scope.specs.declared.entries.Entry.{Entry}
 use Rattle.nif_decode.specs.Faults.{take_cause, IsGone}
 use Rattle.nif_decode.specs.Answers.{Ends, Stops, IsReadyTaker, line_ends}
-
--- what a fault of the taker says of a value at a place
-abbrev pub plain_of : ℕ → TakeFault → Option Fault
-plain_of place take.Ended = Some (plain.Ended place)
-plain_of place take.LineTooLong = Some (plain.LineTooLong place)
-plain_of place take.TooLong = Some plain.TooLong
-plain_of place take.ReadFault = None
-
-tests_plain : (place : ℕ) (a b : Bool)
-    → (if a then Some plain.TooLong else if b then Some (plain.Ended place) else None)
-    ≡ option_and_then (plain_of place) (if a then Some take.TooLong else if b then Some take.Ended else None)
-tests_plain place true b = refl
-tests_plain place false true = refl
-tests_plain place false false = refl
-
-pub shortage_plain : (need : ℕ) (p : Point) → shortage need p ≡ option_and_then (plain_of p.place) (need_fault p.place need p.left)
-unfolding need_fault
-shortage_plain need p = tests_plain p.place (nat_lt (2 ^ 26) (p.place + need) && nat_lt (2 ^ 26) (p.place + length p.left)) (nat_lt (length p.left) need)
+use Rattle.nif_decode.specs.PieceLaws.{need_no_line, plain_of, shortage_plain}
 
 abbrev found_by : ℕ → ℕ → Option ℕ
 found_by k n = if nat_lt k n then Some k else None
@@ -92,15 +75,6 @@ unfolding need_fault
 need_no_read place need bytes = by (nat_lt (2 ^ 26) (place + need) && nat_lt (2 ^ 26) (place + length bytes)) (nat_lt (length bytes) need)
   where
     by : (a b : Bool) → (if a then Some take.TooLong else if b then Some take.Ended else None) ≢ Some take.ReadFault
-    by true b e = absurd (cc)
-    by false true e = absurd (cc)
-    by false false e = absurd (cc)
-
-pub need_no_line : (place need : ℕ) (bytes : List ℕ) → need_fault place need bytes ≢ Some take.LineTooLong
-unfolding need_fault
-need_no_line place need bytes = by (nat_lt (2 ^ 26) (place + need) && nat_lt (2 ^ 26) (place + length bytes)) (nat_lt (length bytes) need)
-  where
-    by : (a b : Bool) → (if a then Some take.TooLong else if b then Some take.Ended else None) ≢ Some take.LineTooLong
     by true b e = absurd (cc)
     by false true e = absurd (cc)
     by false false e = absurd (cc)

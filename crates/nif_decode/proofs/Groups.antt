@@ -13,7 +13,7 @@ use Rattle.nif_layout.specs.Earlier as env
 use Rattle.nif_layout.specs.Earlier.{Env, passed}
 use Rattle.nif_layout.specs.Members.{Member}
 use Rattle.nif_layout.specs.Fault.{one_more}
-use Rattle.nif_layout.proofs.Passing.{count_in}
+use Rattle.nif_layout.specs.PassLaws.{count_in}
 use Rattle.nif_cells.specs.Building.{Level, InGroup, opened, closed, placed, TakesAbsent}
 use Rattle.nif_value.specs.Trees.{after, IsOpen}
 use Rattle.nif_scope.specs.declared.settings.Setting.{Setting}

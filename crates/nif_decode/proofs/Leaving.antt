@@ -10,12 +10,14 @@ use Rattle.nif_stream.specs.Taking.{source_of, place_of, left_of, ahead_of, byte
 use Rattle.nif_stream.specs.Taking as takes
 use Rattle.nif_stream.specs.Taking.{Takes}
 use Rattle.nif_value.specs.Trees as trees
-use Rattle.nif_stream.proofs.TakerLaws.{takes_most, keeps_same}
+use Rattle.nif_stream.specs.TakerLaws.{takes_most, keeps_same}
 use Rattle.nif_layout.specs.Fault as plain
-use Rattle.nif_layout.specs.Fault.{Fault, Point, Passes, one_more, most_nodes, most_bytes}
+use Rattle.nif_base.specs.Limits.{most_nodes, most_file_bytes}
+use Rattle.nif_layout.specs.Fault.{Fault, Point, Passes, one_more}
 use Rattle.nif_layout.specs.LeafFault.{shortage, number_at, range_fault, or_else}
-use Rattle.nif_layout.proofs.Leaves.{shortage_tests, number_again}
-use Rattle.nif_layout.proofs.Bytes.{length_number}
+use Rattle.nif_layout.specs.ByteLaws.{number_again}
+use Rattle.nif_layout.specs.RoomLaws.{shortage_tests}
+use Rattle.nif_layout.specs.ByteLaws.{length_number}
 use Rattle.nif_layout.specs.Fails.{Counted}
 use Rattle.nif_cells.specs.Building.{placed, TakesNode}
 use Rattle.nif_value.specs.Trees.{after}
@@ -151,7 +153,7 @@ range_ceases {S = S} left still faults little most v mk Rest old new room b k sa
     there rest =
         let p : Point = record { nodes = old.nodes + 1; place = place_of old.taker; left = x ++ rest } in
         let enough : 4 ≤ length (x ++ rest) = omega (arith, length-append x rest, long) in
-        let within : place_of old.taker + 4 ≤ most_bytes = omega (arith, t.place, t.within, long) in
+        let within : place_of old.taker + 4 ≤ most_file_bytes = omega (arith, t.place, t.within, long) in
         let none : shortage 4 p ≡ None = shortage_tests 4 p within enough in
         let is : number_at little 4 (x ++ rest) ≡ v = number_again little 4 v rest small in
         ap (λ o. or_else o (range_fault most (number_at little 4 p.left) (mk p.place (number_at little 4 p.left)))) none

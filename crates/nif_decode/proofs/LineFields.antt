@@ -1,12 +1,12 @@
 -- The fields of the line of an open type.
-use Rattle.std.proofs.Common.{◌≡◌, ℕ, zero, suc, ◌+◌, ◌<◌, false, true, is_some, Option, Some, None, List, [], ◌∷◌, length, drop, slice_get, refl, sym, ◌∙◌, ap, arith, true≢false}
+use Rattle.std.proofs.Common.{◌≡◌, ℕ, zero, suc, ◌+◌, ◌<◌, false, is_some, Option, Some, None, List, [], ◌∷◌, length, drop, slice_get, refl, sym, ◌∙◌, ap, arith, true≢false}
 use Rattle.std.specs.Option.{MatchOption}
 use Rattle.std.proofs.lemmas.List.{drop-drop}
 use Rattle.nif_schema.specs.Schema.{Schema, Ends, ancestor}
 use Rattle.nif_schema.specs.Uses.{Here}
 use Rattle.nif_schema.specs.Reasons.{has_no_root}
 use Rattle.nif_layout.specs.Laws.{IsOpenType}
-use Rattle.nif_layout.proofs.OpenTypes.{declared, own_facts}
+use Rattle.nif_layout.specs.OpenTypeLaws.{declared, own_facts}
 
 none_of : {A : Type 0} (o : Option A) → is_some o ≡ false → o ≡ None
 none_of None e = refl

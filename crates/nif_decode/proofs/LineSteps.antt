@@ -1,22 +1,22 @@
 -- A line as the first member of a group.
-use Rattle.std.proofs.Common.{◌≡◌, ℕ, ◌+◌, ◌≤◌, ◌<◌, List, [], ◌∷◌, ◌++◌, length, take, Option, Some, None, refl, sym, ap, ◌∙◌, subst, arith}
+use Rattle.std.proofs.Common.{◌≡◌, ℕ, ◌+◌, ◌≤◌, ◌<◌, List, [], ◌∷◌, ◌++◌, take, Option, Some, None, refl, sym, ap, ◌∙◌, subst, arith}
 use Rattle.std.specs.Prelude.{IsSome}
 use Rattle.nif_base.specs.Node as node
 use Rattle.nif_stream.specs.declared.takers.Taker.{Taker}
 use Rattle.nif_stream.specs.Taking.{Takes}
-use Rattle.nif_stream.proofs.TakerLaws.{takes_joined}
-use Rattle.nif_layout.specs.Context.{Context}
+use Rattle.nif_stream.specs.TakerLaws.{takes_joined}
 use Rattle.nif_layout.specs.Kind as kind
 use Rattle.nif_layout.specs.Leaf.{AreInLine}
-use Rattle.nif_layout.specs.Fault.{Fault, Point, most_nodes}
+use Rattle.nif_base.specs.Limits.{most_nodes}
+use Rattle.nif_layout.specs.Fault.{Fault, Point}
 use Rattle.nif_layout.specs.Fails.{LeafFails}
 use Rattle.nif_cells.specs.Building.{Building, InGroup, placed}
-use Rattle.nif_value.specs.Trees.{Trees, after}
+use Rattle.nif_value.specs.Trees.{after}
 use Rattle.nif_scope.specs.declared.entries.Entry.{Entry}
 use Rattle.nif_scope.specs.declared.entries.Entry.TheVariants as entry
 use Rattle.nif_decode.specs.declared.faults.ValueFault.{ValueFault}
 use Rattle.nif_decode.specs.Faults.{Cause, OfValue, OfRead, OfMemory, cause}
-use Rattle.nif_decode.specs.Answers.{Stand, Went, Ends, Stops, IsReady, HasRoom, Ceases}
+use Rattle.nif_decode.specs.Answers.{Stand, Ends, Stops, IsReady, Ceases}
 use Rattle.nif_decode.specs.Lines.{LineRead, LineRefused, LineStops}
 use Rattle.nif_decode.proofs.Nothing.{nothing_stops}
 use Rattle.nif_decode.proofs.Rows.{went_joined, stops_behind}

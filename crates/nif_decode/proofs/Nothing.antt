@@ -1,6 +1,6 @@
 -- Nothing is taken where a reader begins.
-use Rattle.std.proofs.Common.{◌≡◌, ◌≢◌, ℕ, ◌+◌, ◌^◌, ◌≤◌, Bool, true, false, if◌then◌else◌, ◌&&◌, List, [], ◌∷◌, length, Option, Some, None, refl, sym, ap, ◌∙◌, subst, arith, ltb, le-ltb}
-use Rattle.std.specs.Prelude.{IfSome, nat_lt}
+use Rattle.std.proofs.Common.{◌≡◌, ◌≢◌, ℕ, ◌+◌, ◌^◌, ◌≤◌, false, List, [], ◌∷◌, length, Option, Some, None, refl, sym, ◌∙◌, arith, ltb, le-ltb}
+use Rattle.std.specs.Prelude.{IfSome}
 use Rattle.nif_base.specs.Outside.{Rose}
 use Rattle.nif_stream.specs.declared.takers.Taker.{Taker}
 use Rattle.nif_stream.specs.declared.takers.TakeFault.{TakeFault}

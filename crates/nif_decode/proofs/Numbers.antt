@@ -6,7 +6,7 @@ use Rattle.std.proofs.lemmas.List.{length-reverse, reverse-reverse}
 use Rattle.nif_layout.specs.LeafFault.{low_value}
 use Rattle.std.proofs.lemmas.List.{length-reverse, reverse-reverse}
 use Rattle.nif_layout.specs.Leaf.{AreBytes, AreInLine}
-use Rattle.nif_layout.proofs.DecideLeaves.{low-value, low_bound}
+use Rattle.nif_layout.specs.ByteLaws.{low-value, low_bound}
 
 one_byte : (s : List ℕ) (i bits : ℕ) → i < length s → bits ≡ low_value (drop (suc i) s) → bits * 256 + get_or s i 0 ≡ low_value (drop i s)
 one_byte s i bits h e =

@@ -5,10 +5,10 @@ use Rattle.nif_base.specs.declared.orders.Order.{Order}
 use Rattle.nif_base.specs.declared.orders.Order.TheVariants.{Little}
 use Rattle.nif_base.specs.Node.{Node, Members, Num, Line, Ref, Text, Bytes, Group, Row, End, Here, Absent, text, texts, nodes, is_little, place_or_none}
 use Rattle.nif_stream.specs.Taking.{place_of}
-use Rattle.nif_layout.specs.Fault.{most_nodes}
-use Rattle.nif_layout.proofs.Bytes.{length_number}
+use Rattle.nif_base.specs.Limits.{most_nodes}
+use Rattle.nif_layout.specs.ByteLaws.{length_number}
 use Rattle.nif_cells.specs.Building.{Level, InBytes, InGroup, InRow, placed, bytes_of, TakesNode, TakesAbsent, left_out}
-use Rattle.nif_cells.proofs.Sizing.{nodes-behind, bytes-behind, nodes-absent_behind, bytes-absent_behind}
+use Rattle.nif_cells.specs.SizeLaws.{nodes-behind, bytes-behind, nodes-absent_behind, bytes-absent_behind}
 use Rattle.nif_value.specs.Trees.{Takes, IsWithin, nodes_built, bytes_built}
 use Rattle.nif_scope.specs.declared.entries.Entry.{Entry}
 use Rattle.nif_decode.specs.Answers.{Stand, HasRoom, IsReady}

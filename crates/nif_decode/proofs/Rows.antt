@@ -9,15 +9,16 @@ use Rattle.nif_base.specs.Node as node
 use Rattle.nif_base.specs.Node.{Node, Members, End, Here, Absent, text, texts, nodes, nodes_in}
 use Rattle.nif_stream.specs.declared.takers.Taker.{Taker}
 use Rattle.nif_stream.specs.Taking.{source_of, place_of, left_of, Takes}
-use Rattle.nif_stream.proofs.TakerLaws.{keeps_same, keeps_joined, prepended_none, takes_joined}
+use Rattle.nif_stream.specs.TakerLaws.{keeps_same, keeps_joined, prepended_none, takes_joined}
 use Rattle.nif_layout.specs.Kind.{Kind}
 use Rattle.nif_layout.specs.Form.{Form, Row}
 use Rattle.nif_layout.specs.Fault as plain
-use Rattle.nif_layout.specs.Fault.{Fault, Point, Passes, one_more, most_nodes}
+use Rattle.nif_base.specs.Limits.{most_nodes}
+use Rattle.nif_layout.specs.Fault.{Fault, Point, Passes, one_more}
 use Rattle.nif_layout.specs.Members.{Items}
 use Rattle.nif_layout.specs.Shape.{IsForm}
 use Rattle.nif_layout.specs.Fails.{Counted, ItemsFail, FormFails}
-use Rattle.nif_layout.proofs.Passing.{count_in}
+use Rattle.nif_layout.specs.PassLaws.{count_in}
 use Rattle.nif_cells.specs.Building.{Level, InRow, placed, opened, closed, behind}
 use Rattle.nif_value.specs.Trees.{after, IsOpen}
 use Rattle.nif_scope.specs.declared.entries.Entry.{Entry}

@@ -8,7 +8,7 @@ use Rattle.nif_layout.specs.Earlier.{Env, passed}
 use Rattle.nif_layout.specs.Fault.{Fault, Point, Passes, one_more}
 use Rattle.nif_layout.specs.Members.{Member, Fields, Items, no_check}
 use Rattle.nif_layout.specs.Fails.{MemberFails, FieldsFail, ItemsFail}
-use Rattle.nif_layout.proofs.Passing.{split, count_in}
+use Rattle.nif_layout.specs.PassLaws.{split, count_in}
 use Rattle.nif_cells.specs.Building.{behind, absent_behind}
 use Rattle.nif_decode.specs.Groups.{member_bytes, member_nodes}
 

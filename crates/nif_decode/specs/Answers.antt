@@ -1,5 +1,5 @@
 -- What a reader of a value answers, and what stands after it.
-use Rattle.std.specs.Prelude.{ℕ, ◌≡◌, ◌+◌, ◌^◌, ◌≤◌, List, ◌++◌, length, Some, Ok, Err, IsSome, IfSome}
+use Rattle.std.specs.Prelude.{ℕ, ◌≡◌, ◌+◌, ◌≤◌, List, ◌++◌, length, Some, Ok, Err, IsSome, IfSome}
 use Rattle.std.specs.declared.option.Option.{Option}
 use Rattle.std.specs.declared.result.Result.{Result}
 use Rattle.nif_base.specs.declared.orders.Order.{Order}
@@ -9,7 +9,8 @@ use Rattle.nif_base.specs.declared.faults.NoMemory.{NoMemory}
 use Rattle.nif_stream.specs.declared.takers.Taker.{Taker}
 pub use Rattle.nif_stream.specs.Taking.{Takes}
 use Rattle.nif_stream.specs.Taking.{source_of, place_of, left_of, ahead_of, IsSound, KeepsStill}
-use Rattle.nif_layout.specs.Fault.{Fault, Point, most_nodes}
+use Rattle.nif_base.specs.Limits.{most_file_bytes, most_nodes}
+use Rattle.nif_layout.specs.Fault.{Fault, Point}
 use Rattle.nif_layout.specs.LeafFault.{shortage, newline, line_needs, line_fault, or_else}
 use Rattle.nif_cells.specs.Building.{Building, placed, TakesNode}
 use Rattle.nif_value.specs.Trees.{Trees, after, nodes_built, bytes_built}
@@ -40,7 +41,7 @@ line_ends p = or_else (shortage (line_needs (newline 256 p.left)) p) (line_fault
 pub record IsReadyTaker {S : Type 0} (taker : Taker S) : Type 0 where
   pub sound : IsSound taker
   pub ahead : ahead_of taker ≤ 4096
-  pub within : place_of taker ≤ 2 ^ 26
+  pub within : place_of taker ≤ most_file_bytes
 
 -- Bytes were taken, and so many nodes counted.
 pub record Goes {S : Type 0} (left : S → Option (List ℕ)) (still : S → S → Type 0) (faults : S → ℕ) (bytes : List ℕ) (count : ℕ) (old new : Stand S) : Type 0 where

@@ -5,7 +5,8 @@ use Rattle.nif_base.specs.Node as node
 use Rattle.nif_base.specs.Node.{Node}
 use Rattle.nif_stream.specs.Taking.{place_of}
 use Rattle.nif_layout.specs.Fault as plain
-use Rattle.nif_layout.specs.Fault.{Fault, Point, most_nodes}
+use Rattle.nif_base.specs.Limits.{most_nodes}
+use Rattle.nif_layout.specs.Fault.{Fault, Point}
 use Rattle.nif_layout.specs.Leaf.{AreBytes}
 use Rattle.nif_layout.specs.LeafFault.{shortage}
 use Rattle.nif_layout.specs.Fails.{Counted}

@@ -7,7 +7,6 @@ use Rattle.nif_schema.specs.Declaration.{Field}
 use Rattle.nif_schema.specs.Schema.{Schema, has_block, line}
 use Rattle.nif_schema.specs.Uses.{is_generic, what_at}
 use Rattle.nif_schema.specs.declared.contexts.Context as code
-use Rattle.nif_schema.specs.declared.decls.What.{What}
 use Rattle.nif_schema.specs.declared.decls.What.TheVariants.{Struct}
 use Rattle.nif_stream.specs.declared.takers.Taker.{Taker}
 use Rattle.nif_stream.specs.Taking.{Takes, place_of}
@@ -16,7 +15,8 @@ use Rattle.nif_layout.specs.Kind.{kind_of}
 use Rattle.nif_layout.specs.Earlier.{Env, passed}
 use Rattle.nif_layout.specs.Members.{no_check}
 use Rattle.nif_layout.specs.Shape.{Shape, LineShape}
-use Rattle.nif_layout.specs.Fault.{Fault, Point, most_nodes}
+use Rattle.nif_base.specs.Limits.{most_nodes}
+use Rattle.nif_layout.specs.Fault.{Fault, Point}
 use Rattle.nif_layout.specs.Fails.{Fails, LineFails}
 use Rattle.nif_scope.specs.declared.entries.Entry.{Entry}
 use Rattle.nif_region.specs.Contents.{find}

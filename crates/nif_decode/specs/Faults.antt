@@ -1,6 +1,7 @@
 -- What a fault of the code says, and how much of the source is gone where it comes.
-use Rattle.std.specs.Prelude.{ℕ, ◌+◌, ◌^◌, ◌≤◌, List, length, IfSome}
+use Rattle.std.specs.Prelude.{ℕ, ◌+◌, ◌≤◌, List, length, IfSome}
 use Rattle.std.specs.declared.option.Option.{Option}
+use Rattle.nif_base.specs.Limits.{most_file_bytes}
 use Rattle.nif_stream.specs.declared.takers.TakeFault.{TakeFault}
 use Rattle.nif_stream.specs.declared.takers.TakeFault.TheVariants as take
 use Rattle.nif_layout.specs.Fault as plain
@@ -35,7 +36,7 @@ take_cause at take.ReadFault = OfRead
 -- The place up to which bytes are needed for a fault to be known, of a file of so many bytes.
 abbrev pub known : ℕ → Fault → ℕ
 known total (plain.Ended at) = total
-known total plain.TooLong = 2 ^ 26 + 1
+known total plain.TooLong = most_file_bytes + 1
 known total (plain.LineTooLong at) = at + 256
 known total (plain.RefRange at value) = at + 4
 known total (plain.StringRange at value) = at + 4

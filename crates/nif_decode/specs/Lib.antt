@@ -9,3 +9,5 @@ pub mod Scopes
 pub mod Decodes
 pub mod Lines
 pub mod MembersSoFar
+pub mod WentLaws
+pub mod PieceLaws

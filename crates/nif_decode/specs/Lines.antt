@@ -8,7 +8,8 @@ use Rattle.nif_stream.specs.Taking.{Takes}
 use Rattle.nif_layout.specs.Context.{Context}
 use Rattle.nif_layout.specs.Kind as kind
 use Rattle.nif_layout.specs.Leaf.{AreInLine}
-use Rattle.nif_layout.specs.Fault.{Fault, Point, most_nodes}
+use Rattle.nif_base.specs.Limits.{most_nodes}
+use Rattle.nif_layout.specs.Fault.{Fault, Point}
 use Rattle.nif_layout.specs.Fails.{Counted, LeafFails}
 use Rattle.nif_cells.specs.Building.{Building, InGroup}
 use Rattle.nif_value.specs.Trees.{Trees}

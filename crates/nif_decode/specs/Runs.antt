@@ -1,7 +1,8 @@
 -- Runs of bytes, taken in pieces.
-use Rattle.std.specs.Prelude.{ℕ, ◌≡◌, ◌+◌, ◌^◌, ◌≤◌, Bool, true, false, List, [], ◌∷◌, ◌++◌, map, length, None, Some, Ok, Err, IsSome}
+use Rattle.std.specs.Prelude.{ℕ, ◌≡◌, ◌+◌, ◌≤◌, Bool, true, false, List, [], ◌∷◌, ◌++◌, map, length, None, Some, Ok, Err, IsSome}
 use Rattle.std.specs.declared.result.Result.{Result}
 use Rattle.std.specs.declared.option.Option.{Option}
+use Rattle.nif_base.specs.Limits.{most_nodes}
 use Rattle.nif_stream.specs.Taking.{Takes, place_of}
 use Rattle.nif_layout.specs.Leaf.{AreBytes}
 use Rattle.nif_layout.specs.LeafFault.{shortage}
@@ -24,7 +25,7 @@ pub record HasRun {S : Type 0} (at : Stand S) : Type 0 where
   pub taker : IsReadyTaker at.taker
   pub outer : List Level
   pub is : at.building ≡ Some (record { top = None; levels = InBytes [] ∷ outer })
-  pub nodes : 1 + nodes_open outer ≤ 2 ^ 24
+  pub nodes : 1 + nodes_open outer ≤ most_nodes
   pub bytes : bytes_open outer ≤ place_of at.taker
   pub levels : length outer + 1 ≤ 256
 

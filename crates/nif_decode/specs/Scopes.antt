@@ -3,7 +3,6 @@ use Rattle.std.specs.Prelude.{ℕ, zero, suc, ◌≡◌, ◌+◌, ◌≤◌, Boo
 use Rattle.std.specs.declared.option.Option.{Option}
 use Rattle.nif_base.specs.Node as node
 use Rattle.nif_base.specs.Node.{Node, Members, End, Here, Absent, nodes_in}
-use Rattle.nif_schema.specs.Declaration.{Field}
 use Rattle.nif_schema.specs.Schema.{Schema, line}
 use Rattle.nif_cells.specs.Building.{Building, InGroup, bytes_of}
 use Rattle.nif_scope.specs.declared.entries.Entry.{Entry}

@@ -1,6 +1,6 @@
 //! The value of a type, from its bytes.
 ghost use Rattle.std.specs.Prelude.{◌≡◌, ◌≤◌, ◌<◌, ◌^◌, length, None};
-ghost use Rattle.nif_layout.specs.Fault.{most_nodes};
+ghost use Rattle.nif_base.specs.Limits.{most_nodes};
 ghost use Rattle.nif_layout.specs.Laws.{IsOpenType};
 ghost use Rattle.nif_stream.specs.Taking as taking;
 ghost use Rattle.nif_decode.specs.Decodes.{Decodes, IsGroupType, context_for, owner_of};
@@ -9,14 +9,12 @@ use crate::faults::{Bounds, ValueFault};
 use crate::takes::take_nothing;
 use crate::values::read_group;
 use nif_base::Source;
+use nif_base::limits::MOST_DEPTH;
 use nif_schema::{Context, Schema, What};
 use nif_scope::{Entry, Setting, ValueContext};
 use nif_stream::Taker;
 use nif_value::{Store, TreeId};
 use std::alloc::Global;
-
-/// How deep groups may lie in a value, itself counted.
-pub(crate) const DEEPEST: u32 = 64;
 
 /// The block type that owns its value.
 pub(crate) fn owner_of(schema: &Schema, kind: u32) -> Option<u32>
@@ -50,6 +48,7 @@ pub fn decode_value<S: Source>(
     ensures strings { bounds.new.strings ≡ bounds.old.strings }
     ensures building { store.new.building ≡ None }
     ensures answers { Decodes S.left S.still S.read_faults schema.now (context_for schema.now context kind bounds.old) kind taker.old taker.new bounds.old.nodes bounds.new.nodes store.old store.new result }
+    ensures counted { bounds.new.nodes ≤ most_nodes }
 {
     match take_nothing(taker) {
         Ok(()) => {}
@@ -76,7 +75,7 @@ pub fn decode_value<S: Source>(
     match read_group(
         alloc,
         &setting,
-        DEEPEST - 1,
+        MOST_DEPTH - 1,
         taker,
         store,
         &mut bounds.nodes,

@@ -1,13 +1,11 @@
 //! Why a value was not read.
 ghost use Rattle.std.specs.Prelude.{◌≡◌, ◌+◌, ◌<◌, ◌≤◌, OnOk, IfErr, IfOk};
-ghost use Rattle.nif_layout.specs.Fault.{most_nodes};
+ghost use Rattle.nif_base.specs.Limits.{most_nodes};
 ghost use Rattle.nif_decode.specs.Faults.{cause, take_cause};
 
+use nif_base::limits::MOST_NODES;
 use nif_stream::TakeFault;
 use thiserror::Error;
-
-/// How many nodes a file may have: 2^24.
-const MOST_NODES: u32 = 1 << 24;
 
 /// Why a value was not read, with its place, and the number that is out of range.
 #[derive(Debug, Drop, Clone, Copy, PartialEq, Eq, Error)]
@@ -59,6 +57,7 @@ pub(crate) fn count(at: u64, nodes: &mut u32) -> Result<(), ValueFault>
     ensures ok { OnOk result (nodes.new ≡ nodes.old + 1) }
     ensures full { IfErr result (λ fault. most_nodes ≤ nodes.old) }
     ensures err { IfErr result (λ fault. fault ≡ ValueFault.TooManyNodes at) }
+    ensures within { nodes.old ≤ most_nodes → nodes.new ≤ most_nodes }
 {
     if *nodes >= MOST_NODES {
         return Err(ValueFault::TooManyNodes { at });

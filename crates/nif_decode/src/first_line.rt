@@ -2,7 +2,7 @@
 ghost use Rattle.std.specs.Prelude.{◌≡◌, ◌≤◌, IsSome, Some, None, [], ◌∷◌};
 ghost use Rattle.nif_base.specs.Node as node;
 ghost use Rattle.nif_cells.specs.Building.{InGroup};
-ghost use Rattle.nif_layout.specs.Fault.{most_nodes};
+ghost use Rattle.nif_base.specs.Limits.{most_nodes};
 ghost use Rattle.nif_stream.specs.Taking as taking;
 ghost use Rattle.nif_decode.specs.Answers.{stand};
 ghost use Rattle.nif_decode.specs.Lines.{AddsLine, DecodesLine};
@@ -31,6 +31,7 @@ fn read_first_line<S: Source>(
     requires told { told.old.items ≡ [] }
     ensures trees { store.new.trees ≡ store.old.trees }
     ensures answers { AddsLine S.left S.still S.read_faults into.new (stand taker.old nodes.old store.old told.old.items) (stand taker.new nodes.new store.new told.new.items) result }
+    ensures counted { nodes.new ≤ most_nodes }
 {
     match take_nothing(taker) {
         Ok(()) => {}
@@ -69,6 +70,7 @@ pub fn decode_line<S: Source>(
     ensures strings { bounds.new.strings ≡ bounds.old.strings }
     ensures trees { store.new.trees ≡ store.old.trees }
     ensures answers { DecodesLine S.left S.still S.read_faults taker.old taker.new bounds.old.nodes bounds.new.nodes into.new scope.new store.new result }
+    ensures counted { bounds.new.nodes ≤ most_nodes }
 {
     match read_first_line(into, taker, store, &mut bounds.nodes, &mut scope.entries) {
         Ok(length) => Ok(length),

@@ -1,5 +1,6 @@
 //! Values without members.
 ghost use Rattle.std.specs.Prelude.{◌||◌, ◌-◌, ◌≡◌, ◌≢◌, ◌+◌, ◌^◌, ◌<◌, ◌≤◌, ℕ, length, take, [], ◌∷◌, ◌++◌, IfOk, IfErr, OnOk, OnErr, All, IfSome};
+ghost use Rattle.nif_base.specs.Limits.{most_nodes};
 ghost use Rattle.nif_base.specs.Node as node;
 ghost use Rattle.nif_base.specs.Node.{place_or_none, is_little};
 ghost use Rattle.nif_cells.specs.Building.{TakesNode, placed};
@@ -147,6 +148,7 @@ pub(crate) fn read_number<S: Source>(
     ensures trees { store.new.trees ≡ store.old.trees }
     ensures answers { Answers S.left S.still S.read_faults context.now.context.order (IsLeaf (context_of context.now) (kind.Number width little)) (LeafFails (context_of context.now) (kind.Number width little)) kept.told
         (stand taker.old nodes.old store.old told.old.items) (stand taker.new nodes.new store.new told.new.items) result }
+    ensures counted { nodes.new ≤ most_nodes }
 {
     match count(taker.place(), nodes) {
         Ok(()) => {}
@@ -175,6 +177,7 @@ pub(crate) fn read_line<S: Source>(
     ensures trees { store.new.trees ≡ store.old.trees }
     ensures answers { Answers S.left S.still S.read_faults context.now.context.order (IsLeaf (context_of context.now) kind.Line) (LeafFails (context_of context.now) kind.Line) kept.told
         (stand taker.old nodes.old store.old told.old.items) (stand taker.new nodes.new store.new told.new.items) result }
+    ensures counted { nodes.new ≤ most_nodes }
 {
     match count(taker.place(), nodes) {
         Ok(()) => {}
@@ -205,6 +208,7 @@ pub(crate) fn read_ref<S: Source>(
     ensures trees { store.new.trees ≡ store.old.trees }
     ensures answers { Answers S.left S.still S.read_faults context.now.context.order (IsLeaf (context_of context.now) (kind.Ref strong wanted)) (LeafFails (context_of context.now) (kind.Ref strong wanted)) kept.told
         (stand taker.old nodes.old store.old told.old.items) (stand taker.new nodes.new store.new told.new.items) result }
+    ensures counted { nodes.new ≤ most_nodes }
 {
     let at = taker.place();
     match count(at, nodes) {
@@ -246,6 +250,7 @@ pub(crate) fn read_text<S: Source>(
     ensures trees { store.new.trees ≡ store.old.trees }
     ensures answers { Answers S.left S.still S.read_faults context.now.context.order (IsLeaf (context_of context.now) kind.Text) (LeafFails (context_of context.now) kind.Text) kept.told
         (stand taker.old nodes.old store.old told.old.items) (stand taker.new nodes.new store.new told.new.items) result }
+    ensures counted { nodes.new ≤ most_nodes }
 {
     let at = taker.place();
     match count(at, nodes) {

@@ -3,7 +3,7 @@ ghost use Rattle.std.specs.Prelude.{◌≡◌, ◌≤◌, ◌<◌, length, Some,
 ghost use Rattle.nif_base.specs.Node.{Members};
 ghost use Rattle.nif_schema.specs.Declaration.{field};
 ghost use Rattle.nif_schema.specs.Schema.{line};
-ghost use Rattle.nif_layout.specs.Fault.{most_nodes};
+ghost use Rattle.nif_base.specs.Limits.{most_nodes};
 ghost use Rattle.nif_layout.specs.Laws.{IsOpenType};
 ghost use Rattle.nif_stream.specs.Taking as taking;
 ghost use Rattle.nif_decode.specs.Decodes.{DecodesMembers, IsGroupType, context_for};
@@ -12,12 +12,13 @@ ghost use Rattle.nif_decode.specs.Answers.{IsReadyTaker, stand};
 ghost use Rattle.nif_decode.specs.MembersSoFar.{HoldsAt, MembersAnswers};
 ghost use Rattle.nif_scope.specs.Scope.{IsSetting};
 
-use crate::decode::{DEEPEST, owner_of};
+use crate::decode::owner_of;
 use crate::faults::{Bounds, ValueFault};
 use crate::scope::Scope;
 use crate::takes::take_nothing;
 use crate::values::read_member;
 use nif_base::Source;
+use nif_base::limits::MOST_DEPTH;
 use nif_schema::{Context, Field, Schema};
 use nif_scope::{Entry, Setting, ValueContext};
 use nif_stream::Taker;
@@ -63,10 +64,11 @@ fn read_members<S: Source>(
     ensures trees { store.new.trees ≡ store.old.trees }
     ensures answers { (held : Members) → HoldsAt at.now from (stand taker.old nodes.old store.old told.old.items) held
         → MembersAnswers S.left S.still S.read_faults at.now from to held (stand taker.old nodes.old store.old told.old.items) (stand taker.new nodes.new store.new told.new.items) result }
+    ensures counted { nodes.new ≤ most_nodes }
 {
     for place in from..to {
         let of = field_at(at.schema, at.number, place);
-        match read_member(alloc, at, of, DEEPEST - 1, taker, store, nodes, told) {
+        match read_member(alloc, at, of, MOST_DEPTH - 1, taker, store, nodes, told) {
             Ok(()) => {}
             Err(fault) => return Err(fault),
         }
@@ -101,6 +103,7 @@ pub fn decode_members<S: Source>(
     ensures trees { store.new.trees ≡ store.old.trees }
     ensures answers { (held : Members) → HoldsMembers schema.now kind from scope.old store.old.building bounds.old.nodes (taking.place_of taker.old) held
         → DecodesMembers S.left S.still S.read_faults schema.now (context_for schema.now context kind bounds.old) kind from to held taker.old taker.new bounds.old.nodes bounds.new.nodes scope.new store.new result }
+    ensures counted { bounds.new.nodes ≤ most_nodes }
 {
     match take_nothing(taker) {
         Ok(()) => {}

@@ -1,5 +1,6 @@
 //! Runs of bytes, groups and rows, begun and ended.
 ghost use Rattle.std.specs.Prelude.{IsSomeAnd, OnOk, IfErr, ◌≡◌, ◌+◌, ◌-◌, ◌<◌, ◌≤◌, ℕ, List, [], ◌∷◌, ◌++◌, length};
+ghost use Rattle.nif_base.specs.Limits.{most_nodes};
 ghost use Rattle.nif_base.specs.Node as node;
 ghost use Rattle.nif_base.specs.Node.{Node};
 ghost use Rattle.nif_cells.specs.Building.{InBytes, InGroup, InRow, TakesAbsent};
@@ -37,6 +38,7 @@ pub(crate) fn begin_run<S: Source>(
     requires { IsReady (stand taker.now nodes.old store.old told.old.items) 1 }
     ensures trees { store.new.trees ≡ store.old.trees }
     ensures begins { Begins (InBytes []) (entry.Nothing ∷ []) (stand taker.now nodes.old store.old told.old.items) (stand taker.now nodes.new store.new told.new.items) result }
+    ensures counted { nodes.new ≤ most_nodes }
 {
     match count(taker.place(), nodes) {
         Ok(()) => {}
@@ -58,6 +60,7 @@ pub(crate) fn begin_group<S: Source>(
     requires { IsReady (stand taker.now nodes.old store.old []) 1 }
     ensures trees { store.new.trees ≡ store.old.trees }
     ensures begins { Begins (InGroup node.End) [] (stand taker.now nodes.old store.old []) (stand taker.now nodes.new store.new []) result }
+    ensures counted { nodes.new ≤ most_nodes }
 {
     match count(taker.place(), nodes) {
         Ok(()) => {}
@@ -79,6 +82,7 @@ pub(crate) fn begin_row<S: Source>(
     requires { IsReady (stand taker.now nodes.old store.old told.old.items) 1 }
     ensures trees { store.new.trees ≡ store.old.trees }
     ensures begins { Begins (InRow node.End) (entry.Nothing ∷ []) (stand taker.now nodes.old store.old told.old.items) (stand taker.now nodes.new store.new told.new.items) result }
+    ensures counted { nodes.new ≤ most_nodes }
 {
     match count(taker.place(), nodes) {
         Ok(()) => {}
@@ -136,6 +140,7 @@ pub(crate) fn leave_out<S: Source>(
     requires group { IsSomeAnd store.old.building (λ b. TakesAbsent b.levels) }
     ensures trees { store.new.trees ≡ store.old.trees }
     ensures answers { LeavesOut (stand taker.now nodes.old store.old told.old.items) (stand taker.now nodes.new store.new told.new.items) result }
+    ensures counted { nodes.new ≤ most_nodes }
 {
     match count(taker.place(), nodes) {
         Ok(()) => {}

@@ -1,5 +1,6 @@
 //! Runs of bytes, read in pieces.
 ghost use Rattle.std.specs.Prelude.{◌≡◌, ◌+◌, ◌<◌, ◌≤◌, ℕ, List, [], ◌∷◌, ◌++◌, length, map, OnOk, OnErr, IsSome};
+ghost use Rattle.nif_base.specs.Limits.{most_nodes};
 ghost use Rattle.nif_cells.specs.Building.{TakesBytes, lengthened};
 ghost use Rattle.nif_value.specs.Trees.{Takes, after};
 ghost use Rattle.nif_layout.specs.Leaf.{AreBytes};
@@ -98,6 +99,7 @@ pub(crate) fn read_run<S: Source>(
     requires { IsReady (stand taker.old nodes.old store.old told.old.items) 1 }
     ensures trees { store.new.trees ≡ store.old.trees }
     ensures answers { Answers S.left S.still S.read_faults order (IsRun count) (RunFails count) (member_told asked) (stand taker.old nodes.old store.old told.old.items) (stand taker.new nodes.new store.new told.new.items) result }
+    ensures counted { nodes.new ≤ most_nodes }
 {
     let start = told.len();
     match begin_run(taker, store, nodes, told) {

@@ -1,5 +1,6 @@
 //! Values of all kinds, by the names of a schema.
-ghost use Rattle.std.specs.Prelude.{IsSomeAnd, false, ◌≡◌, ◌+◌, ◌*◌};
+ghost use Rattle.std.specs.Prelude.{◌≤◌, IsSomeAnd, false, ◌≡◌, ◌+◌, ◌*◌};
+ghost use Rattle.nif_base.specs.Limits.{most_nodes};
 ghost use Rattle.nif_base.specs.Node.{Members};
 ghost use Rattle.nif_cells.specs.Building.{TakesAbsent};
 ghost use Rattle.nif_schema.specs.Declaration.{field};
@@ -43,6 +44,7 @@ pub(crate) fn read_one<S: Source>(
     ensures answers { Answers S.left S.still S.read_faults (context_in at.now).order
         (Shape at.now.schema.now (context_in at.now) depth (kind_of at.now.schema.now of)) (Fails at.now.schema.now (context_in at.now) depth (kind_of at.now.schema.now of)) kept.told
         (stand taker.old nodes.old store.old told.old.items) (stand taker.new nodes.new store.new told.new.items) result }
+    ensures counted { nodes.new ≤ most_nodes }
 {
     match of {
         Kind::Number { width, little } => read_number(
@@ -91,6 +93,7 @@ pub(crate) fn read_group<S: Source>(
     ensures trees { store.new.trees ≡ store.old.trees }
     ensures answers { Answers S.left S.still S.read_faults (context_in at.now).order (GroupShape at.now depth) (GroupStops at.now depth) kept.told
         (stand taker.old nodes.old store.old told.old.items) (stand taker.new nodes.new store.new told.new.items) result }
+    ensures counted { nodes.new ≤ most_nodes }
 {
     match begin_group(taker, store, nodes) {
         Ok(()) => {}
@@ -131,6 +134,7 @@ pub(crate) fn read_member<S: Source>(
     ensures answers { (held : Members) → Tells at.now told.old.items held
         → MemberAnswers S.left S.still S.read_faults at.now depth (earlier at.now held) (field of.now)
         (stand taker.old nodes.old store.old told.old.items) (stand taker.new nodes.new store.new told.new.items) result }
+    ensures counted { nodes.new ≤ most_nodes }
 {
     if !scopes::is_present(at, told, of) {
         return leave_out(taker, store, nodes, told);
@@ -158,6 +162,7 @@ fn read_value<S: Source>(
     ensures answers { (held : Members) → Tells at.now told.old.items held
         → Answers S.left S.still S.read_faults (context_in at.now).order (ValueShape at.now depth (earlier at.now held) (field of.now)) (ValueStops at.now depth (earlier at.now held) (field of.now)) (member_told (asks at.now.schema.now at.now.number (field of.now)))
         (stand taker.old nodes.old store.old told.old.items) (stand taker.new nodes.new store.new told.new.items) result }
+    ensures counted { nodes.new ≤ most_nodes }
 {
     let (kind, size) = scopes::form_of(at, told, of);
     let asked = scopes::asks_items(at, of);
@@ -199,6 +204,7 @@ fn read_rows<S: Source>(
         (IsForm (Shape at.now.schema.now (context_in at.now) depth) (Row count (λ i. row_of run (kind_of at.now.schema.now kind) (width_of (width_at at.now.schema.now (context_in at.now) (earlier at.now held) at.now.arg) (field of.now).width i))))
         (FormFails (context_in at.now).order (Shape at.now.schema.now (context_in at.now) depth) (Fails at.now.schema.now (context_in at.now) depth) (Row count (λ i. row_of run (kind_of at.now.schema.now kind) (width_of (width_at at.now.schema.now (context_in at.now) (earlier at.now held) at.now.arg) (field of.now).width i))))
         (member_told asked) (stand taker.old nodes.old store.old told.old.items) (stand taker.new nodes.new store.new told.new.items) result }
+    ensures counted { nodes.new ≤ most_nodes }
 {
     let end = told.len();
     match begin_row(taker, store, nodes, told) {
@@ -245,6 +251,7 @@ fn read_array<S: Source>(
         (IsForm (Shape at.now.schema.now (context_in at.now) depth) (row_of run (kind_of at.now.schema.now of) count))
         (FormFails (context_in at.now).order (Shape at.now.schema.now (context_in at.now) depth) (Fails at.now.schema.now (context_in at.now) depth) (row_of run (kind_of at.now.schema.now of) count))
         (member_told asked) (stand taker.old nodes.old store.old told.old.items) (stand taker.new nodes.new store.new told.new.items) result }
+    ensures counted { nodes.new ≤ most_nodes }
 {
     if run {
         return read_run(
@@ -285,6 +292,7 @@ fn read_row<S: Source>(
         (IsForm (Shape at.now.schema.now (context_in at.now) depth) (row_of false (kind_of at.now.schema.now of) count))
         (FormFails (context_in at.now).order (Shape at.now.schema.now (context_in at.now) depth) (Fails at.now.schema.now (context_in at.now) depth) (row_of false (kind_of at.now.schema.now of) count))
         (member_told asked) (stand taker.old nodes.old store.old told.old.items) (stand taker.new nodes.new store.new told.new.items) result }
+    ensures counted { nodes.new ≤ most_nodes }
 {
     let start = told.len();
     match begin_row(taker, store, nodes, told) {

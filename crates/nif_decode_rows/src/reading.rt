@@ -1,6 +1,6 @@
 //! A block from bytes in memory, by a schema of the tests' own.
 ghost use Rattle.std.specs.Prelude.{◌≡◌, ◌≤◌, None, IfOk, Ok};
-ghost use Rattle.nif_layout.specs.Fault.{most_nodes};
+ghost use Rattle.nif_base.specs.Limits.{most_nodes};
 ghost use Rattle.nif_value.specs.Trees.{IsLive};
 
 use nif_base::{Order, Source, Version};

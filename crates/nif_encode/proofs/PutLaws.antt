@@ -1,19 +1,18 @@
 -- What was put so far, of bytes and of a node.
-use Rattle.std.proofs.Common.{ℕ, zero, suc, ◌+◌, ◌-◌, ◌^◌, ◌<◌, ◌≤◌, ◌≡◌, ◌≢◌, min, List, [], ◌∷◌, ◌++◌, length, take, drop, Option, None, Some, IsSome, IfSome, refl, sym, ◌∙◌, ap, subst, arith, append_assoc, append-nil}
+use Rattle.std.proofs.Common.{ℕ, suc, ◌+◌, ◌-◌, ◌^◌, ◌<◌, ◌≡◌, ◌≢◌, min, List, [], ◌∷◌, ◌++◌, length, take, drop, Option, None, Some, IsSome, IfSome, refl, sym, ◌∙◌, ap, subst, arith, append_assoc, append-nil}
 use Rattle.std.proofs.lemmas.List.{length-take}
 use Rattle.std.specs.Option.{option_map, IsSomeAnd}
 use Rattle.std.proofs.lemmas.List.{take_at, take-append-drop}
 use Rattle.nif_base.specs.declared.orders.Order.{Order}
 use Rattle.nif_stream.specs.declared.putters.Putter.{Putter}
 use Rattle.nif_stream.specs.Putting.{IsSound, Puts, Fails}
-use Rattle.nif_stream.proofs.PutterLaws.{adds_none, puts_more, fails_more, fails_before}
+use Rattle.nif_stream.specs.PutterLaws.{adds_none, puts_more, fails_more, fails_before}
 use Rattle.nif_base.specs.Node.{Node, Num, Line, Ref, Text, Bytes, Group, Row, text}
 use Rattle.nif_cells.specs.Walks.{Met, walk}
-use Rattle.nif_cells.specs.declared.steps.Step.{Step}
-use Rattle.nif_cells.specs.declared.steps.Step.TheVariants as step
 use Rattle.nif_value.specs.Walking.{step_of, walked}
 use Rattle.nif_encode.specs.Texts.{given, met_text, depth_after, where_open, one_text, many_text, behind_one, behind_many, text_at, member_text, some_text, HasMember, HasMembers}
-use Rattle.nif_encode.proofs.TextLaws.{tree_text, some_ahead}
+use Rattle.nif_encode.specs.TextLaws.{tree_text, some_ahead}
+use Rattle.nif_encode.specs.PutSteps.{IsPiece, Passes, closed, depth_more, fits_more, none_left, opened}
 
 -- nothing was put
 pub puts_none : {K : Type 0} (grew : K → List ℕ → K → Type 0) (faults : K → ℕ) (a : Putter K) → IsSound a → Puts grew faults a [] a
@@ -25,12 +24,6 @@ pub record Copies {K : Type 0} (grew : K → List ℕ → K → Type 0) (faults 
   pub puts : Puts grew faults old done now
   pub whole : done ++ given left ≡ given bytes
   pub some : IsSome left
-
--- a piece of the bytes that are left
-pub record IsPiece (left : Option (List ℕ)) (count : ℕ) (piece : List ℕ) (behind : Option (List ℕ)) : Type 0 where
-  pub first : piece ≡ take count (given left)
-  pub behind_is : given behind ≡ drop count (given left)
-  pub still : IsSome behind
 
 pub piece_of : (left : Option (List ℕ)) (size count : ℕ) (array filled : List ℕ) (behind : Option (List ℕ)) → IsSome left → length array ≡ size
     → IfSome left (λ bytes. count ≡ min (length array) (length bytes)) → IfSome left (λ bytes. filled ≡ take count bytes ++ drop count array) → behind ≡ option_map (λ bytes. drop count bytes) left
@@ -68,39 +61,10 @@ pub piece_count : (left : Option (List ℕ)) (count size : ℕ) → IsSome left 
 piece_count None count size some is = absurd (cc)
 piece_count (Some bytes) count size some is = is
 
-pub none_left : (bytes : List ℕ) (size : ℕ) → 0 < size → 0 ≡ min size (length bytes) → bytes ≡ []
-none_left [] size h e = refl
-none_left (b ∷ bytes) size h e = absurd (omega arith)
-
 pub copies_all : {K : Type 0} (grew : K → List ℕ → K → Type 0) (faults : K → ℕ) (old now : Putter K) (bytes left : Option (List ℕ)) (size count : ℕ)
     → Copies grew faults old bytes left now → 0 < size → count ≡ 0 → count ≡ min size (length (given left)) → Puts grew faults old (given bytes) now
 copies_all grew faults old now bytes left size count so_far h zero_is is =
     subst (λ l. Puts grew faults old l now) (sym (append-nil so_far.done) ∙ ap (λ l. so_far.done ++ l) (sym (none_left (given left) size h (sym zero_is ∙ is))) ∙ so_far.whole) so_far.puts
-
--- each step opens one level at most
-pub depth_more : (depth : ℕ) (s : Step) → depth_after depth s ≤ depth + 1
-depth_more depth (step.Num width little bits) = omega arith
-depth_more depth (step.Line len) = omega arith
-depth_more depth (step.Ref view) = omega arith
-depth_more depth (step.Text index) = omega arith
-depth_more depth (step.Bytes len) = omega arith
-depth_more depth (step.Group members) = omega arith
-depth_more depth (step.Row items) = omega arith
-depth_more depth step.Absent = omega arith
-depth_more depth step.End = omega arith
-
-fits_more : (depth next all rest : ℕ) → (0 < depth → depth + all < 2 ^ 32) → next ≤ depth + 1 → all ≡ suc rest → all < 2 ^ 32 → next + rest < 2 ^ 32
-fits_more zero next all rest fits more is few = omega arith
-fits_more (suc depth) next all rest fits more is few = let h = fits (omega arith) in omega (arith, h)
-
--- where some group or row is open, and where none is
-pub opened : {A : Type 0} (depth : ℕ) (some none : A) → depth ≢ 0 → where_open depth some none ≡ some
-opened zero some none h = absurd (h refl)
-opened (suc depth) some none h = refl
-
-pub closed : {A : Type 0} (depth : ℕ) (some none : A) → depth ≡ 0 → where_open depth some none ≡ none
-closed zero some none e = refl
-closed (suc depth) some none e = absurd (cc)
 
 -- of a node the first bytes were put, and this is ahead
 pub record Spells {K : Type 0} (grew : K → List ℕ → K → Type 0) (faults : K → ℕ) (old : Putter K) (order : Order) (all : List Met) (depth : ℕ) (ahead : List Met) (now : Putter K) : Type 0 where
@@ -191,17 +155,6 @@ pub many_all : {K : Type 0} (grew : K → List ℕ → K → Type 0) (faults : K
 many_all grew faults old now order count all i ahead so_far e =
     let none : count - i ≡ 0 = omega arith in
     subst (λ l. Puts grew faults old l now) (sym (append-nil so_far.done) ∙ ap (λ n. so_far.done ++ many_text order n ahead) (sym none) ∙ so_far.whole) so_far.puts
-
--- of a node the first steps were passed over, and this is ahead
-pub record Passes (all : List Met) (depth : ℕ) (ahead : List Met) : Type 0 where
-  pub whole : behind_one depth ahead ≡ behind_one 0 all
-  pub fits : 0 < depth → depth + length ahead < 2 ^ 32
-
-pub passes_next : (all : List Met) (depth : ℕ) (met : Met) (rest ahead : List Met) → Passes all depth ahead → ahead ≡ met ∷ rest → length ahead < 2 ^ 32 → depth_after depth (step_of met) ≢ 0 → Passes all (depth_after depth (step_of met)) rest
-passes_next all depth met rest ahead so_far is few more = record {
-  whole = sym (opened (depth_after depth (step_of met)) (behind_one (depth_after depth (step_of met)) rest) rest more) ∙ ap (behind_one depth) (sym is) ∙ so_far.whole;
-  fits = λ _. fits_more depth (depth_after depth (step_of met)) (length ahead) (length rest) so_far.fits (depth_more depth (step_of met)) (ap length is) few;
-}
 
 pub passes_last : (all : List Met) (depth : ℕ) (met : Met) (rest ahead : List Met) → Passes all depth ahead → ahead ≡ met ∷ rest → depth_after depth (step_of met) ≡ 0 → rest ≡ behind_one 0 all
 passes_last all depth met rest ahead so_far is last =

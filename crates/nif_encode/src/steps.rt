@@ -33,7 +33,7 @@ fn put_bytes<K: Sink>(walk: &mut Walk<'_>, out: &mut Putter<'_, K>) -> Result<()
 }
 
 /// Puts the bytes of a line that a walk met last, and the 0x0A behind them.
-#[tactic(auto, using(nif_stream::proofs::PutterLaws::puts))]
+#[tactic(auto, using(nif_stream::specs::PutterLaws::puts))]
 fn put_line<K: Sink>(walk: &mut Walk<'_>, out: &mut Putter<'_, K>) -> Result<(), WriteFault>
     requires bytes { IsSome walk.old.bytes }
     requires sound { IsSound out.old }
@@ -46,7 +46,7 @@ fn put_line<K: Sink>(walk: &mut Walk<'_>, out: &mut Putter<'_, K>) -> Result<(),
 }
 
 /// Puts the bytes of the step that a walk gave last.
-#[tactic(auto, using(nif_stream::proofs::PutterLaws::puts))]
+#[tactic(auto, using(nif_stream::specs::PutterLaws::puts))]
 fn put_step<K: Sink>(
     walk: &mut Walk<'_>,
     step: Step,

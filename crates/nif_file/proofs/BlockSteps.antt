@@ -11,11 +11,12 @@ use Rattle.nif_layout.specs.Shape.{Shape}
 use Rattle.nif_layout.specs.Fault.{Point, Passes, Reads}
 use Rattle.nif_layout.specs.Fails.{Lifted, Fails}
 use Rattle.nif_layout.specs.Laws.{Fits}
-use Rattle.nif_layout.proofs.Passing.{split, join}
+use Rattle.nif_layout.specs.PassLaws.{split, join}
 use Rattle.nif_file.specs.Stops.{Stop, of_value}
 use Rattle.nif_file.specs.Head.{file_context, block_context, order_in, number_of, index_word}
 use Rattle.nif_file.specs.Checks.{types_fault}
-use Rattle.nif_file.specs.Files.{most_depth, name_of, name_where, zero_word, block_text, block_kind, HasSize, footer_kind}
+use Rattle.nif_base.specs.Limits.{most_depth}
+use Rattle.nif_file.specs.Files.{name_of, name_where, zero_word, block_text, block_kind, HasSize, footer_kind}
 use Rattle.nif_file.specs.FileFails.{TypeReads, TypeFails, ZeroFails, ValueReads, ValueFails, SizeFails, FrameFails, BlockFails, BlockReads, BlocksRead, BlocksFail, FooterReads, FooterFails, IsTrailing, BodyFails, RestFails}
 use Rattle.nif_file.proofs.Walks.{Within, Sound, Then, ThenFails, Unless, chain, unless, viewed, refailed}
 use Rattle.nif_file.proofs.Pieces.{zero_sound, size_sound, end_sound}

@@ -12,7 +12,7 @@ use Rattle.nif_file.specs.Files.{header_line}
 use Rattle.nif_file.specs.HeaderParts.{IsPlaceOf}
 use Rattle.nif_file.specs.Heads.{place_in}
 use Rattle.nif_file.specs.PartsText.{up_to}
-use Rattle.nif_file.proofs.HeadNumbers.{left, right, header_is, header_line_is}
+use Rattle.nif_file.specs.RoleLaws.{left, right, header_is, header_line_is}
 
 none_named : (name : Name) (fields : List Field) → filter (is_named name) fields ≡ [] → list_any (λ f. bytes_eq name f.name) fields ≡ false
 none_named name [] h = refl

@@ -28,7 +28,8 @@ use Rattle.nif_layout.specs.Shape.{Shape, FormShape, IsForm}
 use Rattle.nif_file.specs.Head.{number_of, inner_number, header_context}
 use Rattle.nif_file.specs.Files.{header_line}
 use Rattle.nif_file.specs.Heads.{IsSmall, IsNext}
-use Rattle.nif_file.proofs.HeadNumbers.{Among, Held, held, at_most, passes_once, no_array, no_length, left, right, count_rule, strings_rule, basic_by, own_leaf, found_declared, of_basic, single_form, own_kind, basic_value, basic_number, struct_line, header_line_is}
+use Rattle.nif_file.specs.RoleLaws.{Among, Held, held, passes_once, left, right, basic_by, own_leaf, found_declared, of_basic, own_kind, struct_line, header_line_is}
+use Rattle.nif_file.proofs.HeadNumbers.{at_most, no_array, no_length, count_rule, strings_rule, single_form, basic_value, basic_number}
 
 -- ---- the rules of single fields
 

@@ -8,14 +8,16 @@ use Rattle.nif_schema.specs.Declaration.{Field}
 use Rattle.nif_schema.specs.Schema.{Schema}
 use Rattle.nif_layout.specs.Earlier.{Env, behind}
 use Rattle.nif_layout.specs.Fault as plain
-use Rattle.nif_layout.specs.Fault.{Fault, Point, Passes, one_more, most_bytes, most_nodes}
+use Rattle.nif_base.specs.Limits.{most_file_bytes, most_nodes}
+use Rattle.nif_layout.specs.Fault.{Fault, Point, Passes, one_more}
 use Rattle.nif_layout.specs.Fails.{LineFails}
 use Rattle.nif_stream.specs.declared.takers.Taker.{Taker}
 use Rattle.nif_stream.specs.Taking.{Takes, source_of, place_of, left_of, bytes_of}
-use Rattle.nif_stream.proofs.TakerLaws.{keeps_same, keeps_joined, if_prepended}
+use Rattle.nif_stream.specs.TakerLaws.{keeps_same, keeps_joined, if_prepended}
 use Rattle.nif_decode.specs.declared.faults.ValueFault.{ValueFault}
 use Rattle.nif_decode.specs.declared.faults.ValueFault.TheVariants as fault
 use Rattle.nif_decode.specs.Answers.{Went, Stops, FailsThere, Stand}
+use Rattle.nif_decode.specs.WentLaws.{went_on, went_whole}
 use Rattle.nif_decode.specs.Faults.{Cause, OfValue, OfRead, cause, known}
 use Rattle.nif_file.specs.declared.faults.FileFault.TheVariants as file
 use Rattle.nif_file.specs.Stops.{Stop, of_value}
@@ -28,55 +30,16 @@ use Rattle.nif_file.specs.HeaderParts.{with_members, MemberReads, PartReads}
 use Rattle.nif_file.specs.Heads.{IsNext, IsPart}
 use Rattle.nif_file.specs.HeaderReading.{HeaderStops, StopsThere, HasNoHeader, fault_of}
 use Rattle.nif_file.proofs.HeaderSteps.{part_whole}
-use Rattle.nif_file.proofs.SizeLaws.{length_text}
+use Rattle.nif_file.specs.LengthLaws.{length_text}
 use Rattle.nif_file.proofs.FieldPlaces.{drop_past}
 use Rattle.nif_file.proofs.MemberReading.{part_stops, passes_more, member_reads, member_refused, point_at}
-
--- what stops a header stops its file
-pub header_stops_file : (S : Schema) (bytes : List ℕ) (stop : Stop) → HeaderStops S (length bytes) (start_of bytes) stop → FileStops S bytes stop
-header_stops_file S bytes stop (inl bad) = inl bad
-header_stops_file S bytes stop (inr bad) = inr (bad.0, bad.1, bad.2, inl bad.3)
+use Rattle.nif_file.specs.FaultLaws.{fault_read, fault_value, header_stops_file}
 
 -- ---- a fault of a value as one of a file
-
-pub fault_value : (f : ValueFault) → fault_of f ≢ file.ReadFault → fault_of f ≢ file.NoMemory → (v : Fault) × (cause f ≡ OfValue v) × ((total : ℕ) → of_value total v ≡ record { fault = fault_of f; known = known total v })
-fault_value (fault.Ended at) r m = (plain.Ended at, refl, λ total. refl)
-fault_value fault.TooLong r m = (plain.TooLong, refl, λ total. refl)
-fault_value (fault.LineTooLong at) r m = (plain.LineTooLong at, refl, λ total. refl)
-fault_value (fault.RefRange at value) r m = (plain.RefRange at value, refl, λ total. refl)
-fault_value (fault.StringRange at value) r m = (plain.StringRange at value, refl, λ total. refl)
-fault_value (fault.TooDeep at) r m = (plain.TooDeep at, refl, λ total. refl)
-fault_value (fault.TooManyNodes at) r m = (plain.TooManyNodes at, refl, λ total. refl)
-fault_value fault.ReadFault r m = absurd (r refl)
-fault_value fault.NoMemory r m = absurd (m refl)
-
-pub fault_read : (f : ValueFault) → fault_of f ≡ file.ReadFault → cause f ≡ OfRead
-fault_read (fault.Ended at) e = absurd (cc)
-fault_read fault.TooLong e = absurd (cc)
-fault_read (fault.LineTooLong at) e = absurd (cc)
-fault_read (fault.RefRange at value) e = absurd (cc)
-fault_read (fault.StringRange at value) e = absurd (cc)
-fault_read (fault.TooDeep at) e = absurd (cc)
-fault_read (fault.TooManyNodes at) e = absurd (cc)
-fault_read fault.ReadFault e = refl
-fault_read fault.NoMemory e = absurd (cc)
 
 -- ---- the source
 
 module _ {S : Type 0} (left : S → Option (List ℕ)) (still : S → S → Type 0) (faults : S → ℕ) where
-  pub went_on : (start old new : Taker S) → Went still faults start old → Went still faults old new → Went still faults start new
-  went_on start old new t w = record {
-    same_reference = w.same_reference ∙ t.same_reference;
-    keeps = keeps_joined still start old new t.keeps w.keeps;
-    later = omega (arith, t.later, w.later);
-  }
-
-  pub went_same : (taker : Taker S) → Went still faults taker taker
-  went_same taker = record { same_reference = refl; keeps = keeps_same still taker taker refl; later = omega arith }
-
-  pub went_whole : (start new : Taker S) (bytes : List ℕ) → Takes left still faults start bytes new → Went still faults start new
-  went_whole start new bytes t = record { same_reference = t.same_reference; keeps = t.keeps; later = t.later }
-
   rose_later : (a b c : ℕ) → a ≤ b → Rose b c → Rose a c
   rose_later a b c below rose = omega arith
 
@@ -111,7 +74,7 @@ module _ {S : Type 0} (left : S → Option (List ℕ)) (still : S → S → Type
         → IsPart schema k held bytes counted → slice_get (header_line schema) k ≡ Some f → Went still faults start old → place_of old ≡ length bytes
         → left_of left start ≡ prepended bytes (left_of left old) → Went still faults old new → Stops left faults F (record { taker = old; nodes = counted; building = None; told = [] }) new (cause vf) → HasNoHeader left still faults schema start new (fault_of vf)
     value_ends F k held bytes counted f start old new vf fails part at before place given went stops = record {
-      went = went_on start old new before went;
+      went = went_on still faults start old new before went;
       read = λ e.
           let rose : Rose (faults (source_of old)) (faults (source_of new)) = subst (λ (c : Cause). Stops left faults F stand new c) (fault_read vf e) stops in
           rose_later (faults (source_of start)) (faults (source_of old)) (faults (source_of new)) before.later rose;
@@ -158,7 +121,7 @@ module _ {S : Type 0} (left : S → Option (List ℕ)) (still : S → S → Type
         → header_check schema (head_of schema held) f got ≡ Some stop → stop.fault ≢ file.ReadFault → length (bytes ++ more) ≤ stop.known → place_of start ≡ 0 → Takes left still faults start (bytes ++ more) now
         → HasNoHeader left still faults schema start now stop.fault
     check_ends k held bytes more counted now_counted f got stop start now part at next text count few refused other below first takes = record {
-      went = went_whole start now (bytes ++ more) takes;
+      went = went_whole left still faults start now (bytes ++ more) takes;
       read = λ e. absurd (other e);
       stops = λ r m. told_from start now (bytes ++ more) (StopsThere schema stop.fault (left (source_of now))) takes.given there;
     }
@@ -169,7 +132,7 @@ module _ {S : Type 0} (left : S → Option (List ℕ)) (still : S → S → Type
         there : (rest : List ℕ) → left_of left now ≡ Some rest → StopsThere schema stop.fault (left (source_of now)) ((bytes ++ more) ++ rest)
         there rest told =
             let whole : place_of now ≡ length (bytes ++ more) = omega (arith, takes.place) in
-            let within : place_of now ≤ most_bytes = takes.within in
+            let within : place_of now ≤ most_file_bytes = takes.within in
             let l : length (bytes ++ more) ≡ length bytes + length more = length-append bytes more in
             let most : counted + nodes_in one ≤ most_nodes = omega arith in
             let passes = passes_more schema bytes more counted (nodes_in one) rest (omega arith) most in
@@ -231,7 +194,7 @@ module _ {S : Type 0} (left : S → Option (List ℕ)) (still : S → S → Type
     pub types_end : (held : Members) (bytes : List ℕ) (counted : ℕ) (start now : Taker S) (stop : Stop) → IsPart schema (length (header_line schema)) held bytes counted → types_fault (head_of schema held) ≡ Some stop
         → stop.fault ≢ file.ReadFault → length bytes ≤ stop.known → place_of start ≡ 0 → Takes left still faults start bytes now → HasNoHeader left still faults schema start now stop.fault
     types_end held bytes counted start now stop part missing other below first takes = record {
-      went = went_whole start now bytes takes;
+      went = went_whole left still faults start now bytes takes;
       read = λ e. absurd (other e);
       stops = λ r m. told_from start now bytes (StopsThere schema stop.fault (left (source_of now))) takes.given there;
     }

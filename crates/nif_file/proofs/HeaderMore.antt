@@ -14,11 +14,12 @@ use Rattle.nif_layout.specs.Earlier.{Earlier, Env, behind, passed}
 use Rattle.nif_layout.specs.Laws.{IsOpenType}
 use Rattle.nif_layout.specs.Shape.{LineShape}
 use Rattle.nif_layout.specs.Members.{no_check}
-use Rattle.nif_layout.specs.Fault.{Fault, Point, most_bytes}
+use Rattle.nif_base.specs.Limits.{most_file_bytes}
+use Rattle.nif_layout.specs.Fault.{Fault, Point}
 use Rattle.nif_layout.specs.PathValue.{number_in}
 use Rattle.nif_stream.specs.declared.takers.Taker.{Taker}
 use Rattle.nif_stream.specs.Taking.{Takes, place_of}
-use Rattle.nif_stream.proofs.TakerLaws.{takes_joined}
+use Rattle.nif_stream.specs.TakerLaws.{takes_joined}
 use Rattle.nif_cells.specs.Building.{Building}
 use Rattle.nif_scope.specs.declared.entries.Entry.{Entry}
 use Rattle.nif_value.specs.Trees.{Trees}
@@ -41,10 +42,11 @@ use Rattle.nif_file.specs.Heads.{IsHead, IsNext, IsPart, context_of}
 use Rattle.nif_file.specs.HeaderReading.{HasNoHeader, IsNoted, Notes, StandsAt, fault_of}
 use Rattle.nif_file.proofs.KnownFiles.{member_known}
 use Rattle.nif_file.proofs.Walks.{none_some, some_same}
-use Rattle.nif_file.proofs.HeadNumbers.{root_within}
+use Rattle.nif_file.specs.RoleLaws.{root_within}
 use Rattle.nif_file.proofs.FieldPlaces.{drop_at}
 use Rattle.nif_file.proofs.MemberReading.{one_member, member_fails, part_step}
-use Rattle.nif_file.proofs.HeaderEnds.{went_whole, value_ends, check_ends, next_size}
+use Rattle.nif_decode.specs.WentLaws.{went_whole}
+use Rattle.nif_file.proofs.HeaderEnds.{value_ends, check_ends, next_size}
 use Rattle.nif_file.proofs.LineReading.{member_other}
 use Rattle.nif_file.proofs.Noting.{next_at}
 
@@ -106,7 +108,7 @@ module _ {T : Type 0} (src : T → Option (List ℕ)) (still : T → T → Type 
     takes : Takes src still faults start (st.bytes ++ bytes) now
     takes = takes_joined src still faults start old now st.bytes bytes (st.bytes ++ bytes) st.takes d.takes refl
 
-    few : length st.bytes + length bytes ≤ most_bytes
+    few : length st.bytes + length bytes ≤ most_file_bytes
     few = omega (arith, d.takes.place, d.takes.within, place)
 
     pub noted : IsNoted S header k E f got now_entries head

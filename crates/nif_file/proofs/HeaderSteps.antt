@@ -6,11 +6,12 @@ use Rattle.nif_schema.specs.Declaration.{Field}
 use Rattle.nif_schema.specs.Schema.{Schema}
 use Rattle.nif_layout.specs.Earlier.{Env, behind, passed}
 use Rattle.nif_layout.specs.Present.{present}
-use Rattle.nif_layout.specs.Fault.{Point, Passes, one_more, most_bytes, most_nodes}
+use Rattle.nif_base.specs.Limits.{most_file_bytes, most_nodes}
+use Rattle.nif_layout.specs.Fault.{Point, Passes, one_more}
 use Rattle.nif_layout.specs.Shape.{LineShape}
 use Rattle.nif_layout.specs.Fails.{LineFails}
 use Rattle.nif_layout.specs.Laws.{line_text}
-use Rattle.nif_layout.proofs.Passing.{join, count_out}
+use Rattle.nif_layout.specs.PassLaws.{join, count_out}
 use Rattle.nif_file.specs.Stops.{Stop, of_value}
 use Rattle.nif_file.specs.Head.{header_context}
 use Rattle.nif_file.specs.Checks.{header_check}
@@ -60,7 +61,7 @@ module _ (S : Schema) where
           rw e (inr (m.1, inr (fine, here)))
 
   -- all members are read
-  pub part_whole : (gots : List (Option Node)) (fields : List Field) (E : Env) (at : Point) (E' : Env) (next : Point) → at.place ≤ most_bytes → at.nodes ≤ most_nodes
+  pub part_whole : (gots : List (Option Node)) (fields : List Field) (E : Env) (at : Point) (E' : Env) (next : Point) → at.place ≤ most_file_bytes → at.nodes ≤ most_nodes
       → PartReads S gots fields E at [] E' next
       → Whole S fields E (with_members gots End)
       × Passes (line_text (header_context S) fields E (with_members gots End)) (nodes_in (with_members gots End)) at next

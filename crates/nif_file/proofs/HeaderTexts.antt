@@ -22,8 +22,8 @@ use Rattle.nif_file.specs.Head.{order_in, header_context}
 use Rattle.nif_file.specs.Checks.{header_check}
 use Rattle.nif_file.specs.Files.{header_line, head_of, header_text, IsHeaderLine}
 use Rattle.nif_file.specs.PartsText.{up_to, header_part}
-use Rattle.nif_file.proofs.HeaderPlaces.{neither, other_name, none_named}
-use Rattle.nif_file.proofs.HeadNumbers.{left, header_is, header_line_is}
+use Rattle.nif_file.specs.PlaceLaws.{neither, other_name, none_named}
+use Rattle.nif_file.specs.RoleLaws.{left, header_is, header_line_is}
 
 -- ---- one member for each field
 

@@ -6,7 +6,7 @@ use Rattle.nif_base.specs.Node.{Node, Members, nodes, nodes_in}
 use Rattle.nif_schema.specs.Schema.{Schema}
 use Rattle.nif_schema.specs.declared.contexts.Context as code
 use Rattle.nif_layout.specs.Earlier.{Env}
-use Rattle.nif_layout.specs.Fault.{most_nodes}
+use Rattle.nif_base.specs.Limits.{most_nodes}
 use Rattle.nif_stream.specs.declared.takers.Taker.{Taker}
 use Rattle.nif_stream.specs.Taking.{Takes}
 use Rattle.nif_region.specs.Contents as contents

@@ -23,14 +23,17 @@ use Rattle.nif_file.specs.Stops.{Stop, of_value}
 use Rattle.nif_file.specs.FirstLine.{line_version}
 use Rattle.nif_file.specs.Sizes.{size, size_in, size_of_fields}
 use Rattle.nif_file.specs.Head.{header_context, file_context, block_context, order_in, version_in, number_of, bs_version, index_word, line_in}
-use Rattle.nif_file.specs.Checks.{most_blocks, most_types, highest_bs, line_fault, refuse_where, member_fault, header_check}
-use Rattle.nif_file.specs.Files.{most_depth, header_line, head_of, header_text, has_zero_word, zero_word, name_of, name_where, block_kind, block_text, footer_kind}
+use Rattle.nif_base.specs.Limits.{most_blocks, most_types, highest_bs, most_depth}
+use Rattle.nif_file.specs.Checks.{line_fault, refuse_where, member_fault, header_check}
+use Rattle.nif_file.specs.Files.{header_line, head_of, header_text, has_zero_word, zero_word, name_of, name_where, block_kind, block_text, footer_kind}
 use Rattle.nif_file.specs.FileFails.{PartFails, KindRefused, NameRefused, TypeFailsBy, ZeroFailsBy, ValueFails, FrameFails, BlockFails, BlocksRead, BlocksFail, FooterFails, BodyFails, RestFails, HeaderReads, start_of, FileStops, sized_needs}
 use Rattle.nif_file.specs.FileLaws.{KnownWithin}
 use Rattle.nif_file.proofs.Walks.{none_some, some_same}
-use Rattle.nif_file.proofs.HeadNumbers.{basic_value, header_line_is, left, right}
-use Rattle.nif_file.proofs.SizeLaws.{length_text, line_length}
+use Rattle.nif_file.specs.RoleLaws.{header_line_is, left, right}
+use Rattle.nif_file.proofs.HeadNumbers.{basic_value}
+use Rattle.nif_file.specs.LengthLaws.{length_text, line_length}
 use Rattle.nif_file.proofs.KnownValues.{IsOf, of_behind, left_within, short_kept, there, fails_kept, form_fails_kept, lifted_kept}
+use Rattle.nif_file.specs.RoleLaws.{bare_present, no_value}
 
 -- ---- the checks of the header
 
@@ -116,30 +119,6 @@ module _ (S : Schema) (total : ℕ) where
           behind_none (inr bad) ih = let a : at.place ≡ size_of_fields (behind f None (e ∷ E)) = omega arith in ih None (one_more at) of a bad.1
 
 -- ---- the line
-
-pub no_value : {A : Type 0} (o : Option A) → is_none o ≡ true → o ≡ None
-no_value None h = refl
-no_value (Some x) h = absurd (true≢false (sym h))
-
--- a bare field is always present
-pub bare_present : (S : Schema) (C : Context) (E : Env) (f : Field) → is_bare f ≡ true → present S C 0 E f ≡ true
-bare_present S C E f h =
-    let p = left (is_plain f) (is_none f.length && has_no_bounds f) h in
-    let bounds = right (is_none f.length) (has_no_bounds f) (right (is_plain f) (is_none f.length && has_no_bounds f) h) in
-    let c = right (is_none f.width) (has_no_condition f) (right (is_none f.arg) (is_none f.width && has_no_condition f) (right (is_none f.template) (is_none f.arg && (is_none f.width && has_no_condition f)) p)) in
-    let c1 = right (is_none f.cond) _ c in
-    let c2 = right (is_none f.vercond) _ c1 in
-    let c3 = right (is_none f.user) _ c2 in
-    let c4 = right (is_none f.bs) _ c3 in
-    let cond = no_value f.cond (left (is_none f.cond) _ c) in
-    let vercond = no_value f.vercond (left (is_none f.vercond) _ c1) in
-    let user = no_value f.user (left (is_none f.user) _ c2) in
-    let bs = no_value f.bs (left (is_none f.bs) _ c3) in
-    let only = no_value f.only (left (is_none f.only) (is_none f.exclude) c4) in
-    let exclude = no_value f.exclude (right (is_none f.only) (is_none f.exclude) c4) in
-    let since = no_value f.since (left (is_none f.since) (is_none f.until) bounds) in
-    let until = no_value f.until (right (is_none f.since) (is_none f.until) bounds) in
-    rw (cond, vercond, user, bs, only, exclude, since, until) refl
 
 pub line_leaf : listed_leaf (codes "HeaderString") ≡ Some leaf.Line
 unfolding listed_leaf

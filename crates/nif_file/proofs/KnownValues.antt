@@ -9,12 +9,13 @@ use Rattle.nif_layout.specs.Earlier.{Env, behind}
 use Rattle.nif_layout.specs.Present.{present}
 use Rattle.nif_layout.specs.Kind.{Kind, Number, Line, Ref, Text, Group, Unknown}
 use Rattle.nif_layout.specs.Form.{Form, One, Run, Row, form_of}
-use Rattle.nif_layout.specs.Fault.{Fault, Ended, TooLong, LineTooLong, RefRange, StringRange, TooManyNodes, Point, Passes, one_more, most_bytes}
+use Rattle.nif_base.specs.Limits.{most_file_bytes}
+use Rattle.nif_layout.specs.Fault.{Fault, Ended, TooLong, LineTooLong, RefRange, StringRange, TooManyNodes, Point, Passes, one_more}
 use Rattle.nif_layout.specs.LeafFault.{shortage, leaf_fault, or_else, newline, line_needs, line_fault, number_at, range_fault}
 use Rattle.nif_layout.specs.Members.{no_check}
 use Rattle.nif_layout.specs.Shape.{IsForm, Shape}
 use Rattle.nif_layout.specs.Fails.{Counted, Lifted, MemberFails, FieldsFail, ItemsFail, FormFails, LeafFails, GroupFails, Fails, FormShapeFails}
-use Rattle.nif_layout.proofs.DecideLeaves.{Enough, enough}
+use Rattle.nif_layout.specs.RoomLaws.{Enough, enough}
 use Rattle.nif_file.specs.Stops.{Stop, of_value}
 use Rattle.nif_file.proofs.Walks.{none_some, some_same}
 
@@ -39,11 +40,11 @@ module _ (total : ℕ) where
   abbrev pub Kept : {Why : Type 0} → (Why → ℕ) → (Point → Why → Type 0) → Type 0
   Kept {Why} K F = (at : Point) (w : Why) → IsOf total at → F at w → K w ≤ total
 
-  short_by : (k : ℕ) (at : Point) (f : Fault) (a b c : Bool) → ltb most_bytes (at.place + k) ≡ a → ltb most_bytes (at.place + length at.left) ≡ b → ltb (length at.left) k ≡ c
+  short_by : (k : ℕ) (at : Point) (f : Fault) (a b c : Bool) → ltb most_file_bytes (at.place + k) ≡ a → ltb most_file_bytes (at.place + length at.left) ≡ b → ltb (length at.left) k ≡ c
       → IsOf total at → shortage k at ≡ Some f → (of_value total f).known ≤ total
   short_by k at f true true c ea eb ec of e =
       let same : TooLong ≡ f = some_same (shortage k at) TooLong f (rw (ea, eb) refl) e in
-      let long = ltb-true most_bytes (at.place + length at.left) eb in
+      let long = ltb-true most_file_bytes (at.place + length at.left) eb in
       subst (λ (f : Fault). (of_value total f).known ≤ total) same (omega arith)
   short_by k at f true false true ea eb ec of e =
       let same : Ended at.place ≡ f = some_same (shortage k at) (Ended at.place) f (rw (ea, eb, ec) refl) e in
@@ -56,7 +57,7 @@ module _ (total : ℕ) where
 
   pub short_kept : (k : ℕ) (at : Point) (f : Fault) → IsOf total at → shortage k at ≡ Some f → (of_value total f).known ≤ total
   short_kept k at f of e =
-      short_by k at f (ltb most_bytes (at.place + k)) (ltb most_bytes (at.place + length at.left)) (ltb (length at.left) k) refl refl refl of e
+      short_by k at f (ltb most_file_bytes (at.place + k)) (ltb most_file_bytes (at.place + length at.left)) (ltb (length at.left) k) refl refl refl of e
 
   pub there : (k : ℕ) (at : Point) → IsOf total at → shortage k at ≡ None → at.place + k ≤ total
   there k at of e = by (enough k at)

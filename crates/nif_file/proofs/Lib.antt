@@ -8,10 +8,8 @@ pub mod HeadNumbers
 pub mod WholeFiles
 pub mod FileExamples
 pub mod HeaderSteps
-pub mod SizeLaws
 pub mod KnownValues
 pub mod KnownFiles
-pub mod HeaderPlaces
 pub mod HeaderTexts
 pub mod PartsTexts
 pub mod PartsPuts

@@ -19,11 +19,12 @@ use Rattle.nif_layout.specs.Kind.{Kind, Line, Unknown, kind_of}
 use Rattle.nif_layout.specs.Form.{Form, One, form_of, field_kind, replaced}
 use Rattle.nif_layout.specs.Leaf.{AreInLine}
 use Rattle.nif_layout.specs.Shape.{FormShape}
-use Rattle.nif_layout.specs.Fault.{Fault, Point, most_bytes, most_nodes}
+use Rattle.nif_base.specs.Limits.{most_file_bytes, most_nodes, most_blocks, most_types, highest_bs}
+use Rattle.nif_layout.specs.Fault.{Fault, Point}
 use Rattle.nif_layout.specs.Fails.{LeafFails, FormShapeFails, LineFails}
 use Rattle.nif_stream.specs.declared.takers.Taker.{Taker}
 use Rattle.nif_stream.specs.Taking.{Takes, left_of, place_of}
-use Rattle.nif_stream.proofs.TakerLaws.{keeps_same, prepended_none}
+use Rattle.nif_stream.specs.TakerLaws.{keeps_same, prepended_none}
 use Rattle.nif_cells.specs.Building.{Building, InGroup}
 use Rattle.nif_scope.specs.declared.entries.Entry.{Entry}
 use Rattle.nif_scope.specs.declared.entries.Entry.TheVariants as entry
@@ -39,13 +40,14 @@ use Rattle.nif_file.specs.declared.heads.Head.{Head}
 use Rattle.nif_file.specs.Stops.{Stop, of_value}
 use Rattle.nif_file.specs.FirstLine.{line_version}
 use Rattle.nif_file.specs.Head.{header_context, bs_version, version_in}
-use Rattle.nif_file.specs.Checks.{line_fault, member_fault, refuse_where, header_check, most_blocks, most_types, highest_bs}
+use Rattle.nif_file.specs.Checks.{line_fault, member_fault, refuse_where, header_check}
 use Rattle.nif_file.specs.Files.{header_line, head_of}
 use Rattle.nif_file.specs.HeaderParts.{with_members}
 use Rattle.nif_file.specs.Heads.{IsHead, IsNext, IsPart}
 use Rattle.nif_file.specs.HeaderReading.{HasNoHeader, StandsAt, fault_of}
-use Rattle.nif_file.proofs.HeadNumbers.{left, right, header_line_is, of_basic, basic_by, own_leaf, found_declared, single_form, own_kind}
-use Rattle.nif_file.proofs.KnownFiles.{bare_present, no_value}
+use Rattle.nif_file.specs.RoleLaws.{left, right, header_line_is, of_basic, basic_by, own_leaf, found_declared, own_kind}
+use Rattle.nif_file.proofs.HeadNumbers.{single_form}
+use Rattle.nif_file.specs.RoleLaws.{bare_present, no_value}
 use Rattle.nif_file.proofs.Walks.{none_some, some_same}
 use Rattle.nif_file.proofs.MemberReading.{part_step}
 use Rattle.nif_file.proofs.HeaderEnds.{value_ends, check_ends}
@@ -215,8 +217,8 @@ module _ (S : Schema) (is : IsSchema S) (f : Field) (fields : List Field) (first
     line_stands header start now l entries building counted head found first-place are few takes fine count built told is_head =
         let few_counted : counted ≤ most_nodes = subst (λ (n : ℕ). n ≤ most_nodes) (sym count) (lit≤ tt) in
         let long : length (line_bytes l) ≡ length l + 1 = length-append l (0x0A ∷ []) in
-        let below : 256 ≤ most_bytes = lit≤ tt in
-        let short : 0 + length (line_bytes l) ≤ most_bytes = omega (arith, below) in
+        let below : 256 ≤ most_file_bytes = lit≤ tt in
+        let short : 0 + length (line_bytes l) ≤ most_file_bytes = omega (arith, below) in
         let step = part_step S 0 End [] (line_bytes l) 1 counted f (Some (node.Line l)) no_part first_at (next_here l are few) (line_text l) count short few_counted (line_check l ∙ fine) in
         let env : head_of S (Here (node.Line l) End) ≡ behind f (Some (node.Line l)) [] = step.1 ∙ ap (behind f (Some (node.Line l))) no_members in
         let own : line S header ≡ f ∷ fields = sym (ap (λ o. option_map_or (line S) o []) found) ∙ first.line in

@@ -10,9 +10,10 @@ use Rattle.nif_layout.specs.Present.{present}
 use Rattle.nif_layout.specs.Form.{form_of}
 use Rattle.nif_layout.specs.Shape.{FormShape, LineShape}
 use Rattle.nif_layout.specs.Members.{Member, no_check}
-use Rattle.nif_layout.specs.Fault.{Fault, Point, Passes, most_bytes, most_nodes}
+use Rattle.nif_base.specs.Limits.{most_file_bytes, most_nodes}
+use Rattle.nif_layout.specs.Fault.{Fault, Point, Passes}
 use Rattle.nif_layout.specs.Fails.{MemberFails, FormShapeFails, LineFails}
-use Rattle.nif_layout.proofs.Passing.{count_in}
+use Rattle.nif_layout.specs.PassLaws.{count_in}
 use Rattle.nif_decode.specs.Scopes.{joined}
 use Rattle.nif_file.specs.Stops.{Stop, of_value}
 use Rattle.nif_file.specs.Head.{header_context}
@@ -131,7 +132,7 @@ module _ (S : Schema) where
   abbrev pub point_at : ℕ → List ℕ → List ℕ → Point
   point_at counted bytes rest = record { nodes = counted; place = length bytes; left = rest }
 
-  pub passes_more : (bytes more : List ℕ) (counted count : ℕ) (rest : List ℕ) → length bytes + length more ≤ most_bytes → counted + count ≤ most_nodes
+  pub passes_more : (bytes more : List ℕ) (counted count : ℕ) (rest : List ℕ) → length bytes + length more ≤ most_file_bytes → counted + count ≤ most_nodes
       → Passes more count (point_at counted bytes (more ++ rest)) (point_at (counted + count) (bytes ++ more) rest)
   passes_more bytes more counted count rest few counted-few =
       let l : length (bytes ++ more) ≡ length bytes + length more = length-append bytes more in
@@ -140,7 +141,7 @@ module _ (S : Schema) where
   -- one member more
   pub part_step : (k : ℕ) (held : Members) (bytes more : List ℕ) (counted now : ℕ) (f : Field) (got : Option Node) → IsPart S k held bytes counted → slice_get (header_line S) k ≡ Some f
       → IsNext S (head_of S held) f got → more ≡ texts (header_context S (head_of S held)).order (with_members (got ∷ []) End) → now ≡ counted + nodes_in (with_members (got ∷ []) End)
-      → length bytes + length more ≤ most_bytes → now ≤ most_nodes → header_check S (head_of S held) f got ≡ None
+      → length bytes + length more ≤ most_file_bytes → now ≤ most_nodes → header_check S (head_of S held) f got ≡ None
       → IsPart S (k + 1) (joined held (with_members (got ∷ []) End)) (bytes ++ more) now × (head_of S (joined held (with_members (got ∷ []) End)) ≡ behind f got (head_of S held))
   part_step k held bytes more counted now f got p at next text count few many fine = (record { gots = p.gots ++ got ∷ []; is = is; reads = reads }, env)
     where

@@ -27,10 +27,11 @@ use Rattle.nif_file.specs.HeaderParts.{with_members, member_at, IsPlaceOf}
 use Rattle.nif_file.specs.Heads.{IsHead, IsNext, IsSmall, place_in}
 use Rattle.nif_file.specs.HeaderReading.{IsNoted, Notes}
 use Rattle.nif_file.proofs.Walks.{some_same}
-use Rattle.nif_file.proofs.HeadNumbers.{Among, at_most, header_line_is}
+use Rattle.nif_file.specs.RoleLaws.{Among, header_line_is}
+use Rattle.nif_file.proofs.HeadNumbers.{at_most}
 use Rattle.nif_file.proofs.HeadSmall.{InnerOf, bs_struct, small_member}
 use Rattle.nif_file.proofs.FieldPlaces.{field_list, only_of, some_of}
-use Rattle.nif_file.proofs.HeaderPlaces.{one_named, node_in}
+use Rattle.nif_file.specs.PlaceLaws.{one_named, node_in}
 
 -- ---- an absent member says nothing
 

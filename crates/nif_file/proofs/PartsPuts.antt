@@ -5,7 +5,7 @@ use Rattle.std.specs.Option.{IsSomeAnd}
 use Rattle.nif_base.specs.Node.{Node}
 use Rattle.nif_stream.specs.declared.putters.Putter.{Putter}
 use Rattle.nif_stream.specs.Putting.{IsSound, Puts, Fails}
-use Rattle.nif_stream.proofs.PutterLaws.{adds_none, puts_more, fails_more}
+use Rattle.nif_stream.specs.PutterLaws.{adds_none, puts_more, fails_more}
 use Rattle.nif_file.proofs.FieldPlaces.{drop_at, drop_past}
 
 -- ---- a tree of a store

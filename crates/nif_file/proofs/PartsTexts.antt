@@ -20,7 +20,7 @@ use Rattle.nif_file.specs.Head.{order_in, version_in, index_word}
 use Rattle.nif_file.specs.Files.{IsFile, IsHeader, IsBlock, AreBlocks, header_text, block_text, blocks_text, text_of, members_of, head_of, head_in, name_of, name_where, has_zero_word, zero_where}
 use Rattle.nif_file.specs.PartsSay.{SaysFile, SaysBlock, SaysBlocks, StandsUnder}
 use Rattle.nif_file.specs.PartsText.{CanPut, CanPutBlock, node_at, header_part, block_part, parts_text}
-use Rattle.nif_file.proofs.HeadNumbers.{header_line_is}
+use Rattle.nif_file.specs.RoleLaws.{header_line_is}
 use Rattle.nif_file.proofs.HeaderTexts.{header_parts, header_matched, matched_count}
 use Rattle.nif_file.proofs.ValueSteps.{block_open}
 

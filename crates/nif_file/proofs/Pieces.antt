@@ -5,9 +5,10 @@ use Rattle.nif_base.specs.Node.{Node, text, number, is_little}
 use Rattle.nif_layout.specs.Earlier.{Env}
 use Rattle.nif_layout.specs.Fault.{Point, Passes}
 use Rattle.nif_layout.specs.LeafFault.{shortage, number_at}
-use Rattle.nif_layout.proofs.Passing.{one_point}
-use Rattle.nif_layout.proofs.Leaves.{no_shortage}
-use Rattle.nif_layout.proofs.DecideLeaves.{Enough, enough, skip, passes_skip, number_taken}
+use Rattle.nif_layout.specs.PassLaws.{one_point}
+use Rattle.nif_layout.specs.RoomLaws.{no_shortage}
+use Rattle.nif_layout.specs.ByteLaws.{number_taken}
+use Rattle.nif_layout.specs.RoomLaws.{Enough, enough, skip, passes_skip}
 use Rattle.nif_file.specs.declared.faults.FileFault.TheVariants as file
 use Rattle.nif_file.specs.Stops.{Stop, of_value}
 use Rattle.nif_file.specs.Head.{order_in, version_in, stated_size}

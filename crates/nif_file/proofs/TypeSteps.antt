@@ -14,12 +14,14 @@ use Rattle.nif_schema.specs.Schema.{Schema, find, find_block, has_block}
 use Rattle.nif_schema.specs.Reasons.{IsOpen, IsReason}
 use Rattle.nif_schema.specs.declared.faults.Closed.{Closed}
 use Rattle.nif_layout.specs.Earlier.{Env}
-use Rattle.nif_layout.specs.Fault.{Point, Passes, most_bytes}
+use Rattle.nif_base.specs.Limits.{most_file_bytes}
+use Rattle.nif_layout.specs.Fault.{Point, Passes}
 use Rattle.nif_layout.specs.LeafFault.{number_at}
-use Rattle.nif_layout.proofs.Passing.{one_point}
-use Rattle.nif_layout.proofs.Bytes.{length_number, number_front, same_front}
-use Rattle.nif_layout.proofs.Leaves.{number_again}
-use Rattle.nif_layout.proofs.DecideLeaves.{Enough, enough, skip, passes_skip, number_taken}
+use Rattle.nif_layout.specs.PassLaws.{one_point}
+use Rattle.nif_layout.specs.ByteLaws.{length_number, number_front, same_front}
+use Rattle.nif_layout.specs.ByteLaws.{number_again}
+use Rattle.nif_layout.specs.ByteLaws.{number_taken}
+use Rattle.nif_layout.specs.RoomLaws.{Enough, enough, skip, passes_skip}
 use Rattle.nif_file.specs.declared.faults.FileFault.TheVariants as file
 use Rattle.nif_file.specs.Stops.{Stop, of_value}
 use Rattle.nif_file.specs.Head.{order_in, type_names, index_word, type_place}
@@ -28,27 +30,9 @@ use Rattle.nif_file.specs.FileFails.{PartFails, sized_needs, KindRefused, NameRe
 use Rattle.nif_file.proofs.Walks.{Within, Sound, within_behind, none_some, some_same}
 use Rattle.nif_file.proofs.Pieces.{passes_none, part_excludes, part_one}
 use Rattle.nif_file.proofs.ReasonCases.{not_open, one_reason, open_or_closed}
+use Rattle.nif_file.specs.NameLaws.{block_name, found_by, found_name, found_number}
 
 -- ---- names of types
-
-found_by : (b : Bool) (n kind : ℕ) → (if b then Some n else None) ≡ Some kind → n ≡ kind
-found_by true n kind e = cc
-found_by false n kind e = absurd (cc)
-
-found_number : (S : Schema) (o : Option ℕ) (kind : ℕ) → option_and_then (λ number. if has_block S number then Some number else None) o ≡ Some kind → o ≡ Some kind
-found_number S None kind e = absurd (cc)
-found_number S (Some n) kind e = ap (λ m. Some m) (found_by (has_block S n) n kind e)
-
--- a declaration that is found has the name
-pub found_name : (S : Schema) (name : Name) (n : ℕ) → find S name ≡ Some n → name_of S n ≡ name
-found_name [] name n e = absurd (cc)
-found_name (d ∷ S) name n e =
-    let at = position-Some (λ x. bytes_eq name x.name) (d ∷ S) n d e in
-    let same : name ≡ (get_or (d ∷ S) n d).name = (bytes_eq-Decides name (get_or (d ∷ S) n d).name).0 at.1 in
-    ap (λ o. option_map_or (λ x. x.name) o []) (slice_get-get_or (d ∷ S) n d at.0) ∙ sym same
-
-pub block_name : (S : Schema) (name : Name) (kind : ℕ) → find_block S name ≡ Some kind → name_of S kind ≡ name
-block_name S name kind e = found_name S name kind (found_number S (find S name) kind e)
 
 -- ---- a type is refused, or it is one of blocks
 
@@ -126,7 +110,7 @@ short_name : (order : Order) (name : Name) (n : ℕ) (at next : Point) → Passe
 short_name order name n at next p =
     let l = length_sized order name in
     let pl : next.place ≡ at.place + length (sized_string order name) = p.place in
-    let w : next.place ≤ most_bytes = p.within in
+    let w : next.place ≤ most_file_bytes = p.within in
     omega arith
 
 front : (order : Order) (name : Name) (n : ℕ) (at next : Point) → Passes (sized_string order name) n at next
@@ -150,7 +134,7 @@ needs order name n at next p =
     e ∙ ap (λ m. 4 + m) v ∙ sym l
 
 -- where its bytes are there, it is read
-sized_read : (order : Order) (at : Point) → Within at → (b : Bool) → ltb (length at.left) 4 ≡ b → sized_needs order at.left ≤ length at.left → at.place + sized_needs order at.left ≤ most_bytes
+sized_read : (order : Order) (at : Point) → Within at → (b : Bool) → ltb (length at.left) 4 ≡ b → sized_needs order at.left ≤ length at.left → at.place + sized_needs order at.left ≤ most_file_bytes
     → (name : Name) × (next : Point) × Passes (sized_string order name) 0 at next
 sized_read order at w true short there within =
     let lt = ltb-true (length at.left) 4 short in

@@ -13,12 +13,13 @@ use Rattle.nif_layout.specs.Earlier.{Env}
 use Rattle.nif_layout.specs.Kind.{kind_of}
 use Rattle.nif_layout.specs.Form.{Form, One}
 use Rattle.nif_layout.specs.Leaf.{AreBytes}
-use Rattle.nif_layout.specs.Fault.{Fault, Point, Passes, Reads, most_bytes, most_nodes}
+use Rattle.nif_base.specs.Limits.{most_file_bytes, most_nodes}
+use Rattle.nif_layout.specs.Fault.{Fault, Point, Passes, Reads}
 use Rattle.nif_layout.specs.Members.{Check}
 use Rattle.nif_layout.specs.Shape.{Shape, LineShape}
 use Rattle.nif_layout.specs.Fails.{Lifted, Fails, LineFails}
 use Rattle.nif_layout.specs.Laws.{Fits, AllFit, IsOpenType, HasTemplate, OneForm, OneLine, ExactlyOne, at_place, IsPlace, Stands, SpelledOrFails, LineSpelledOrFails, line_text}
-use Rattle.nif_layout.proofs.Passing.{one_point}
+use Rattle.nif_layout.specs.PassLaws.{one_point}
 use Rattle.nif_file.specs.Stops.{Stop, of_value}
 use Rattle.nif_file.proofs.Walks.{Within, Sound, within_behind}
 
@@ -50,7 +51,7 @@ stands : (at next : Point) (s : List ℕ) (n : ℕ) → Passes s n at next → S
 stands at next s n p =
     let pl : next.place ≡ at.place + length s = p.place in
     let no : next.nodes ≡ at.nodes + n = p.nodes in
-    let w : next.place ≤ most_bytes = p.within in
+    let w : next.place ≤ most_file_bytes = p.within in
     let c : next.nodes ≤ most_nodes = p.counted in
     record { rest = next.left; here = drop_padded at.place at.left ∙ p.here; within = omega arith; counted = omega arith }
 

@@ -1,13 +1,14 @@
 -- Parts of a file, one behind another: each is read from one point to the next, or it fails.
 use Rattle.std.proofs.Common.{◌≡◌, ℕ, ◌≤◌, ◌⊎◌, inl, inr, Option, Some, None, List, ◌++◌, refl, sym, ◌∙◌, ap, subst, subst₂}
 use Rattle.nif_layout.specs.Leaf.{AreBytes}
-use Rattle.nif_layout.specs.Fault.{Point, Passes, most_bytes, most_nodes}
-use Rattle.nif_layout.proofs.Decide.{bytes_behind}
+use Rattle.nif_base.specs.Limits.{most_file_bytes, most_nodes}
+use Rattle.nif_layout.specs.Fault.{Point, Passes}
+use Rattle.nif_layout.specs.ByteLaws.{bytes_behind}
 use Rattle.nif_file.specs.Stops.{Stop}
 
 -- A point within the limits, with bytes behind it.
 pub record Within (at : Point) : Type 0 where
-  pub place : at.place ≤ most_bytes
+  pub place : at.place ≤ most_file_bytes
   pub nodes : at.nodes ≤ most_nodes
   pub bytes : AreBytes at.left
 

@@ -9,11 +9,12 @@ use Rattle.nif_schema.specs.Schema.{Schema, IsSchema, line}
 use Rattle.nif_schema.specs.Roles.{Roles, IsRoot}
 use Rattle.nif_layout.specs.Earlier.{Env}
 use Rattle.nif_layout.specs.Leaf.{AreBytes}
-use Rattle.nif_layout.specs.Fault.{Point, Passes, most_bytes, most_nodes}
+use Rattle.nif_base.specs.Limits.{most_file_bytes, most_nodes}
+use Rattle.nif_layout.specs.Fault.{Point, Passes}
 use Rattle.nif_layout.specs.Shape.{LineShape}
 use Rattle.nif_layout.specs.Fails.{LineFails}
 use Rattle.nif_layout.specs.Laws.{AllFit, ExactlyOne, line_text}
-use Rattle.nif_layout.proofs.Passing.{split, join}
+use Rattle.nif_layout.specs.PassLaws.{split, join}
 use Rattle.nif_file.specs.Stops.{Stop, of_value}
 use Rattle.nif_file.specs.Head.{header_context, order_in, number_of}
 use Rattle.nif_file.specs.Checks.{header_check, types_fault}
@@ -23,7 +24,9 @@ use Rattle.nif_file.specs.FileLaws.{FileOrFault, OneFile, OnePlace}
 use Rattle.nif_file.proofs.Walks.{Within, Sound, Then, ThenFails, Unless, chain}
 use Rattle.nif_file.proofs.ValueSteps.{Spelled, OneValue, LineSpelled, OneOfLine, line_sound, no_template}
 use Rattle.nif_file.proofs.BlockSteps.{Body, rest_sound}
-use Rattle.nif_file.proofs.HeadNumbers.{root_within, head_fits}
+use Rattle.nif_file.specs.RoleLaws.{root_within}
+use Rattle.nif_file.proofs.HeadNumbers.{head_fits}
+use Rattle.nif_file.specs.BlockLaws.{blocks_split}
 
 abbrev pub Parts : Type 0
 Parts = Members × (List Block × (Node × Unit {0}))
@@ -59,7 +62,7 @@ file_sound spelled one_value line_spelled one_line S is roles total =
 
 -- ---- blocks as one text
 
-pub blocks_join : (S : Schema) (E : Env) (n k : ℕ) (blocks : List Block) (at next : Point) → at.place ≤ most_bytes → at.nodes ≤ most_nodes → BlocksRead S E k n blocks at next
+pub blocks_join : (S : Schema) (E : Env) (n k : ℕ) (blocks : List Block) (at next : Point) → at.place ≤ most_file_bytes → at.nodes ≤ most_nodes → BlocksRead S E k n blocks at next
     → (length blocks ≡ n) × AreBlocks S E k blocks × Passes (blocks_text S E k blocks) (block_nodes blocks) at next
 blocks_join S E zero k blocks at next place few r =
     let none : Passes [] 0 at at = record { here = refl; place = omega arith; nodes = omega arith; within = place; counted = few } in
@@ -77,17 +80,6 @@ blocks_join S E (suc n) k blocks at next place few r =
       (here.0, later.1),
       join (block_text S E k block) (blocks_text S E (k + 1) rest) (nodes block.node) (block_nodes rest) at mid next here.1 later.2,
     )
-
-pub blocks_split : (S : Schema) (E : Env) (blocks : List Block) (k : ℕ) (at next : Point) → AreBlocks S E k blocks → Passes (blocks_text S E k blocks) (block_nodes blocks) at next
-    → BlocksRead S E k (length blocks) blocks at next
-blocks_split S E [] k at next are p =
-    let place : next.place ≡ at.place = omega (arith, p.place) in
-    let number : next.nodes ≡ at.nodes = omega (arith, p.nodes) in
-    let left : next.left ≡ at.left = sym p.here in
-    (refl, λ i. record { nodes = number i; place = place i; left = left i })
-blocks_split S E (block ∷ blocks) k at next are p =
-    let s = split (block_text S E k block) (blocks_text S E (k + 1) blocks) (nodes block.node) (block_nodes blocks) at next p in
-    (block, blocks, s.0, refl, (are.0, s.1), blocks_split S E blocks (k + 1) s.0 next are.1 s.2)
 
 -- ---- the whole as one text
 
@@ -111,7 +103,7 @@ to_file S z bytes next r =
     let spelled : bytes ≡ text_of S (file_of z) = whole.here ∙ ap (λ l. text_of S (file_of z) ++ l) last.0 ∙ append-nil (text_of S (file_of z)) in
     let place : end.place ≡ 0 + length (text_of S (file_of z)) = whole.place in
     let count : end.nodes ≡ 1 + (nodes_in members + (block_nodes blocks + nodes footer)) = whole.nodes in
-    let within : end.place ≤ most_bytes = whole.within in
+    let within : end.place ≤ most_file_bytes = whole.within in
     let few : end.nodes ≤ most_nodes = whole.counted in
     let long : length bytes ≡ length (text_of S (file_of z)) = ap length spelled in
     record {

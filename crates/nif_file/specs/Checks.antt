@@ -1,7 +1,8 @@
 -- Why a member of the header is refused as soon as it was read, and why the header is behind its last member.
-use Rattle.std.specs.Prelude.{ℕ, ◌+◌, ◌^◌, Bool, false, not, ◌&&◌, ◌||◌, nat_eq, nat_le, nat_lt, codes, bytes_eq, List, [], ◌∷◌, length, None, Some, is_some, is_none, if◌then◌else◌}
+use Rattle.std.specs.Prelude.{ℕ, ◌+◌, Bool, false, not, ◌&&◌, ◌||◌, nat_eq, nat_le, nat_lt, codes, bytes_eq, List, [], ◌∷◌, length, None, Some, is_some, is_none, if◌then◌else◌}
 use Rattle.std.specs.declared.option.Option.{Option}
 use Rattle.std.specs.Option.{option_map_or}
+use Rattle.nif_base.specs.Limits.{most_blocks, most_types, highest_bs}
 use Rattle.nif_schema.specs.Declaration.{Name}
 use Rattle.nif_schema.specs.Schema.{Schema}
 use Rattle.nif_schema.specs.Roles.{lowest, highest}
@@ -14,16 +15,6 @@ use Rattle.nif_file.specs.Stops.{Stop}
 use Rattle.nif_file.specs.FirstLine.{line_version}
 use Rattle.nif_file.specs.Sizes.{size_of_fields}
 use Rattle.nif_file.specs.Head.{line_in, version_in, bs_version, member}
-
--- a file has at most so many blocks, so many names of types, and this BS version
-abbrev pub most_blocks : ℕ
-most_blocks = 2 ^ 20
-
-abbrev pub most_types : ℕ
-most_types = 2 ^ 15
-
-abbrev pub highest_bs : ℕ
-highest_bs = 154
 
 -- The line has a form, and its version is one that is accepted. This is known at the end of the line.
 abbrev pub line_fault : List ℕ → Option Stop

@@ -17,7 +17,8 @@ use Rattle.nif_file.specs.declared.faults.FileFault.TheVariants as file
 use Rattle.nif_file.specs.Stops.{Stop, of_value}
 use Rattle.nif_file.specs.Head.{header_context, file_context, block_context, order_in, version_in, number_of, type_names, index_word, type_place, stated_size}
 use Rattle.nif_file.specs.Checks.{header_check, types_fault}
-use Rattle.nif_file.specs.Files.{most_depth, header_depth, header_line, head_of, IsHeaderLine, header_text, name_of, name_where, sized_string, has_zero_word, zero_word, is_abstract, IsBlockType, IsIndexed, block_kind, IsValue, IsBlock, block_text, footer_kind, IsFooter}
+use Rattle.nif_base.specs.Limits.{most_depth}
+use Rattle.nif_file.specs.Files.{header_depth, header_line, head_of, IsHeaderLine, header_text, name_of, name_where, sized_string, has_zero_word, zero_word, is_abstract, IsBlockType, IsIndexed, block_kind, IsValue, IsBlock, block_text, footer_kind, IsFooter}
 
 -- A type name or a zero word is one part of its whole length: it fails where its bytes aren't there. The file has so
 -- many bytes in all.

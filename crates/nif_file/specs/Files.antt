@@ -15,15 +15,11 @@ use Rattle.nif_schema.specs.declared.decls.What.TheVariants as what
 use Rattle.nif_layout.specs.Earlier.{Env, passed}
 use Rattle.nif_layout.specs.Kind.{Kind, Unknown, kind_of}
 use Rattle.nif_layout.specs.Shape.{Shape, LineShape}
-use Rattle.nif_layout.specs.Fault.{most_bytes, most_nodes}
+use Rattle.nif_base.specs.Limits.{most_file_bytes, most_nodes}
 use Rattle.nif_layout.specs.Laws.{line_text}
 use Rattle.nif_file.specs.Sizes.{size}
 use Rattle.nif_file.specs.Head.{header_context, file_context, block_context, order_in, version_in, number_of, type_names, index_word, type_place, stated_size}
 use Rattle.nif_file.specs.Checks.{header_check, types_fault}
-
--- groups lie at most so deep in a header, a block or a footer
-abbrev pub most_depth : ℕ
-most_depth = 64
 
 -- The header is a group itself, so groups in it lie one less deep.
 abbrev pub header_depth : ℕ
@@ -182,4 +178,4 @@ pub record IsFile (S : Schema) (F : File) (bytes : List ℕ) : Type 0 where
   pub footer : IsFooter S (head_in S F) F.footer
   pub text : bytes ≡ text_of S F
   pub few_nodes : nodes_of F ≤ most_nodes
-  pub short : length bytes ≤ most_bytes
+  pub short : length bytes ≤ most_file_bytes

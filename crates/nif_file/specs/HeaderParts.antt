@@ -8,7 +8,8 @@ use Rattle.nif_schema.specs.Schema.{Schema}
 use Rattle.nif_layout.specs.Earlier.{Env, behind}
 use Rattle.nif_layout.specs.Present.{present}
 use Rattle.nif_layout.specs.Form.{form_of}
-use Rattle.nif_layout.specs.Fault.{Point, Reads, one_more, most_nodes}
+use Rattle.nif_base.specs.Limits.{most_nodes}
+use Rattle.nif_layout.specs.Fault.{Point, Reads, one_more}
 use Rattle.nif_layout.specs.Shape.{FormShape}
 use Rattle.nif_file.specs.Head.{header_context}
 use Rattle.nif_file.specs.Checks.{header_check}

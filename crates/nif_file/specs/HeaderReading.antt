@@ -9,7 +9,8 @@ use Rattle.nif_base.specs.Outside.{Rose}
 use Rattle.nif_schema.specs.Declaration.{Field}
 use Rattle.nif_schema.specs.Schema.{Schema}
 use Rattle.nif_layout.specs.Earlier.{Earlier, Env, behind}
-use Rattle.nif_layout.specs.Fault.{Point, most_nodes}
+use Rattle.nif_base.specs.Limits.{most_nodes}
+use Rattle.nif_layout.specs.Fault.{Point}
 use Rattle.nif_stream.specs.declared.takers.Taker.{Taker}
 use Rattle.nif_stream.specs.Taking.{Takes, source_of, place_of, left_of}
 use Rattle.nif_region.specs.Contents.{find}

@@ -11,3 +11,9 @@ pub mod PartsSay
 pub mod PartsText
 pub mod Heads
 pub mod HeaderReading
+pub mod LengthLaws
+pub mod PlaceLaws
+pub mod NameLaws
+pub mod BlockLaws
+pub mod FaultLaws
+pub mod RoleLaws

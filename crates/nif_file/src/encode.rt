@@ -80,7 +80,7 @@ fn put_members<K: Sink>(
 }
 
 /// Puts the header: its members up to and with `Endian Type` little, the others in the order of the file.
-#[tactic(auto, using(nif_stream::proofs::PutterLaws::puts))]
+#[tactic(auto, using(nif_stream::specs::PutterLaws::puts))]
 fn put_header<K: Sink>(
     schema: &Schema,
     parts: &GraphParts,
@@ -103,7 +103,7 @@ fn put_header<K: Sink>(
 }
 
 /// Puts a sized string.
-#[tactic(auto, using(nif_stream::proofs::PutterLaws::puts))]
+#[tactic(auto, using(nif_stream::specs::PutterLaws::puts))]
 fn put_sized<K: Sink>(bytes: &[u8], order: Order, out: &mut Putter<'_, K>) -> Result<(), WriteFault>
     ensures ok { OnOk result (Puts K.grew K.write_faults out.old (sized_string order bytes.now) out.new) }
     ensures err { OnErr result (Fails K.grew K.write_faults out.old (sized_string order bytes.now) out.new) }
@@ -143,7 +143,7 @@ fn put_zero_word<K: Sink>(version: Version, out: &mut Putter<'_, K>) -> Result<(
 }
 
 /// Puts a block.
-#[tactic(auto, using(nif_stream::proofs::PutterLaws::puts))]
+#[tactic(auto, using(nif_stream::specs::PutterLaws::puts))]
 fn put_block<K: Sink>(
     schema: &Schema,
     store: &Store,
@@ -183,7 +183,7 @@ fn put_blocks<K: Sink>(
 }
 
 /// Puts all parts.
-#[tactic(auto, using(nif_stream::proofs::PutterLaws::puts))]
+#[tactic(auto, using(nif_stream::specs::PutterLaws::puts))]
 fn put_parts<K: Sink>(
     schema: &Schema,
     parts: &GraphParts,
@@ -199,7 +199,7 @@ fn put_parts<K: Sink>(
 }
 
 /// Writes all parts.
-#[tactic(auto, using(nif_stream::proofs::PutterLaws::puts))]
+#[tactic(auto, using(nif_stream::specs::PutterLaws::puts))]
 fn write_parts<K: Sink>(schema: &Schema, parts: &GraphParts, sink: &mut K) -> Result<(), WriteFault>
     requires { CanPut schema.now parts.now }
     ensures ok { OnOk result (K.grew sink.old (parts_text schema.now parts.now) sink.new) }

@@ -9,27 +9,14 @@ ghost use Rattle.nif_layout.specs.Earlier.{Earlier, Env, behind};
 ghost use Rattle.nif_layout.specs.PathValue.{number_in};
 ghost use Rattle.nif_file.specs.FirstLine.{behind_front, line_version};
 ghost use Rattle.nif_file.specs.Head.{header_context, bs_version, version_in, member, inner_number};
-ghost use Rattle.nif_file.specs.Checks.{highest_bs, line_fault, member_fault, most_blocks, most_types, refuse_where};
+ghost use Rattle.nif_base.specs.Limits.{highest_bs, most_blocks, most_types};
+ghost use Rattle.nif_file.specs.Checks.{line_fault, member_fault, refuse_where};
 ghost use Rattle.nif_file.specs.Heads.{IsHead, IsSmall, context_of};
 
 use crate::faults::FileFault;
 use nif_base::Version;
+use nif_base::limits::{HIGHEST_BS, HIGHEST_VERSION, LOWEST_VERSION, MOST_BLOCKS, MOST_TYPES};
 use nif_schema::{Context, Order};
-
-/// The lowest accepted version, 4.0.0.2.
-const LOWEST: u32 = 0x0400_0002;
-
-/// The highest accepted version, 20.2.0.7.
-const HIGHEST: u32 = 0x1402_0007;
-
-/// A file has at most so many blocks.
-const MOST_BLOCKS: u32 = 1 << 20;
-
-/// A file has at most so many names of types.
-const MOST_TYPES: u32 = 1 << 15;
-
-/// The highest BS version.
-const HIGHEST_BS: u32 = 154;
 
 /// What stands behind a front of bytes, where they have it.
 #[tactic(auto, unfolding(crate::specs::FirstLine::behind_front))]
@@ -69,7 +56,7 @@ pub(crate) fn version_of_line(line: &[u8]) -> Result<Version, FileFault>
     ensures { MatchResult result (λ version. (line_version line.now ≡ Some version.number) × (line_fault line.now ≡ None)) (λ fault. line_fault line.now ≡ Some (record { fault = fault; known = length line.now + 1 })) }
 {
     match line_version(line) {
-        Some(version) if LOWEST <= version.number && version.number <= HIGHEST => Ok(version),
+        Some(version) if LOWEST_VERSION <= version.number && version.number <= HIGHEST_VERSION => Ok(version),
         Some(version) => Err(FileFault::VersionRange {
             number: version.number,
         }),

@@ -17,8 +17,8 @@ use Rattle.nif_layout.specs.PathValue.{header_value, path_value, follow, found}
 use Rattle.nif_layout.specs.Laws.{IsOpenType}
 use Rattle.nif_layout.specs.Defined.{fields_before, EachPlaced, HasValue, HasValues, NamesNumbers, IsDefined, AllDefined}
 use Rattle.nif_layout.specs.Form.{is_array, array_name}
-use Rattle.nif_layout.proofs.OpenTypes.{or_left, or_right, or_cases, and_both, not_false, no_reason, no_first, no_reason_at, open_used, declared, own_facts, parent_within}
-use Rattle.nif_layout.proofs.OpenKnown.{uses_parent}
+use Rattle.nif_layout.specs.OpenTypeLaws.{or_left, or_right, or_cases, and_both, not_false, no_reason, no_first, no_reason_at, open_used, declared, own_facts, parent_within}
+use Rattle.nif_layout.specs.OpenKindLaws.{uses_parent}
 
 -- ---- one path
 

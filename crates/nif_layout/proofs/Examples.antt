@@ -17,7 +17,8 @@ use Rattle.nif_schema.specs.declared.fields.Exact.TheVariants as exact
 use Rattle.nif_layout.specs.Context.{Context}
 use Rattle.nif_layout.specs.Kind.{kind_of}
 use Rattle.nif_layout.specs.Form.{One, number_at_item}
-use Rattle.nif_layout.specs.Fault.{RefRange, TooDeep, TooManyNodes, most_bytes, most_nodes}
+use Rattle.nif_base.specs.Limits.{most_file_bytes, most_nodes}
+use Rattle.nif_layout.specs.Fault.{RefRange, TooDeep, TooManyNodes}
 use Rattle.nif_layout.specs.Shape.{Shape, Spells, FormShape}
 use Rattle.nif_layout.specs.Fails.{Fails, ItemsFail, FormShapeFails}
 
@@ -639,7 +640,7 @@ holder_depth : depth holder_node ≡ 64
 holder_depth = refl
 
 -- One level more is too deep, at the place of the group that lies too deep.
-volumes_fail : (k p n : ℕ) (rest : List ℕ) → p + 4 * k ≤ most_bytes → n + 2 * k ≤ most_nodes
+volumes_fail : (k p n : ℕ) (rest : List ℕ) → p + 4 * k ≤ most_file_bytes → n + 2 * k ≤ most_nodes
     → Fails schema context k (kind_of schema context 5 None 0) (record { nodes = n; place = p; left = ones k rest }) (TooDeep (p + 4 * k))
 unfolding parent by_name is_own_template
 volumes_fail zero p n rest w c = ap (λ q. TooDeep q) (omega arith)
@@ -664,7 +665,7 @@ holder_fails = inr (lit< tt, inl (TooDeep 315, refl, volumes_fail 63 63 17 [] (l
 
 -- ---- so many items of no bytes that there are too many nodes
 
-hollows_fail : (m n i p k : ℕ) (rest : List ℕ) → k + m ≡ most_nodes → p ≤ most_bytes → m < n
+hollows_fail : (m n i p k : ℕ) (rest : List ℕ) → k + m ≡ most_nodes → p ≤ most_file_bytes → m < n
     → ItemsFail Little (λ i. FormShape schema context 63 (One (kind_of schema context 6 None 0))) (λ i. FormShapeFails schema context 63 (One (kind_of schema context 6 None 0))) i n
     (record { nodes = k; place = p; left = rest }) (TooManyNodes p)
 unfolding parent by_name is_own_template

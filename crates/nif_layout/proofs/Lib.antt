@@ -1,15 +1,3 @@
-pub mod Bytes
-pub mod Cancel
-pub mod Passing
-pub mod Exclusive
-pub mod Leaves
-pub mod Exclusion
-pub mod Decide
-pub mod DecideLeaves
-pub mod DecideShapes
-pub mod OpenTypes
-pub mod OpenKnown
-pub mod Theorems
 pub mod Examples
 pub mod DefinedValues
 pub mod Depth

@@ -11,7 +11,8 @@ use Rattle.nif_layout.specs.Earlier.{Env, behind}
 use Rattle.nif_layout.specs.Present.{present}
 use Rattle.nif_layout.specs.Kind.{Kind, Number, Line, Ref, Text, Group, Unknown}
 use Rattle.nif_layout.specs.Form.{Form, One, Run, Row, form_of}
-use Rattle.nif_layout.specs.Fault.{Fault, TooDeep, TooManyNodes, Point, Reads, one_more, most_nodes}
+use Rattle.nif_base.specs.Limits.{most_nodes}
+use Rattle.nif_layout.specs.Fault.{Fault, TooDeep, TooManyNodes, Point, Reads, one_more}
 use Rattle.nif_layout.specs.LeafFault.{shortage, leaf_fault}
 use Rattle.nif_layout.specs.Members.{Check, no_check}
 use Rattle.nif_layout.specs.Shape.{IsForm, Shape, FormShape}

@@ -1,5 +1,6 @@
 -- Places in a file, and why the value at one can't be read.
-use Rattle.std.specs.Prelude.{ℕ, ◌≡◌, ◌+◌, ◌^◌, ◌≤◌, List, ◌++◌, length}
+use Rattle.std.specs.Prelude.{ℕ, ◌≡◌, ◌+◌, ◌≤◌, List, ◌++◌, length}
+use Rattle.nif_base.specs.Limits.{most_file_bytes, most_nodes}
 use Rattle.nif_base.specs.declared.orders.Order.{Order}
 use Rattle.nif_base.specs.Node.{Node, text, nodes}
 
@@ -13,13 +14,6 @@ pub data Fault : Type 0 where
   StringRange : (at : ℕ) → (value : ℕ) → Fault
   TooDeep : (at : ℕ) → Fault
   TooManyNodes : (at : ℕ) → Fault
-
--- the most bytes and the most nodes of a file
-abbrev pub most_bytes : ℕ
-most_bytes = 2 ^ 26
-
-abbrev pub most_nodes : ℕ
-most_nodes = 2 ^ 24
 
 -- A place in a file, with the nodes that were counted before it and the bytes from it on.
 pub record Point : Type 0 where
@@ -36,7 +30,7 @@ pub record Passes (bytes : List ℕ) (count : ℕ) (at next : Point) : Type 0 wh
   pub here : at.left ≡ bytes ++ next.left
   pub place : next.place ≡ at.place + length bytes
   pub nodes : next.nodes ≡ at.nodes + count
-  pub within : next.place ≤ most_bytes
+  pub within : next.place ≤ most_file_bytes
   pub counted : next.nodes ≤ most_nodes
 
 -- a node is spelled at the first point, and the next one lies behind it

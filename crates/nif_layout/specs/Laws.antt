@@ -11,7 +11,8 @@ use Rattle.nif_layout.specs.Earlier.{Env}
 use Rattle.nif_layout.specs.Kind.{kind_of}
 use Rattle.nif_layout.specs.Form.{Form}
 use Rattle.nif_layout.specs.Leaf.{AreBytes}
-use Rattle.nif_layout.specs.Fault.{Fault, Point, most_bytes, most_nodes}
+use Rattle.nif_base.specs.Limits.{most_file_bytes, most_nodes}
+use Rattle.nif_layout.specs.Fault.{Fault, Point}
 use Rattle.nif_layout.specs.Members.{Check, fields_text}
 use Rattle.nif_layout.specs.Shape.{Shape, Spells, FormShape, LineShape}
 use Rattle.nif_layout.specs.Fails.{Fails, FormShapeFails, LineFails}
@@ -73,14 +74,14 @@ at_place n bytes p = record { nodes = n; place = p; left = drop p bytes }
 -- The place lies in the file and within the limit.
 pub record IsPlace (bytes : List ℕ) (p : ℕ) : Type 0 where
   pub are_bytes : AreBytes bytes
-  pub within : p ≤ most_bytes
+  pub within : p ≤ most_file_bytes
   pub inside : p ≤ length bytes
 
 -- A prefix of the bytes from a place on is so many bytes, with so many nodes, within the limits.
 pub record Stands (bytes : List ℕ) (p n : ℕ) (front : List ℕ) (count : ℕ) : Type 0 where
   pub rest : List ℕ
   pub here : drop p bytes ≡ front ++ rest
-  pub within : p + length front ≤ most_bytes
+  pub within : p + length front ≤ most_file_bytes
   pub counted : n + count ≤ most_nodes
 
 -- a node of this shape is spelled there

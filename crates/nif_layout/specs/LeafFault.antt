@@ -5,12 +5,13 @@ use Rattle.std.specs.Option.{option_map}
 use Rattle.nif_base.specs.Node.{is_little}
 use Rattle.nif_layout.specs.Context.{Context}
 use Rattle.nif_layout.specs.Kind.{Kind, Number, Line, Ref, Text}
-use Rattle.nif_layout.specs.Fault.{Fault, Ended, TooLong, LineTooLong, RefRange, StringRange, Point, most_bytes}
+use Rattle.nif_base.specs.Limits.{most_file_bytes}
+use Rattle.nif_layout.specs.Fault.{Fault, Ended, TooLong, LineTooLong, RefRange, StringRange, Point}
 
 -- The fault of what needs k bytes: they reach past the most bytes and the file has more than those, or fewer are left.
 abbrev pub shortage : ℕ → Point → Option Fault
 shortage k at =
-    if nat_lt most_bytes (at.place + k) && nat_lt most_bytes (at.place + length at.left) then Some TooLong
+    if nat_lt most_file_bytes (at.place + k) && nat_lt most_file_bytes (at.place + length at.left) then Some TooLong
     else if nat_lt (length at.left) k then Some (Ended at.place)
     else None
 

@@ -12,3 +12,16 @@ pub mod LeafFault
 pub mod Fails
 pub mod Laws
 pub mod Defined
+pub mod PassLaws
+pub mod ByteLaws
+pub mod RoomLaws
+pub mod CancelLaws
+pub mod ExclusiveLaws
+pub mod ExclusionLaws
+pub mod DecideLaws
+pub mod DecideLeafLaws
+pub mod DecideShapeLaws
+pub mod LeafLaws
+pub mod OpenTypeLaws
+pub mod OpenKindLaws
+pub mod ValueLaws

@@ -27,8 +27,8 @@ use Rattle.nif_layout.specs.Shape.{Shape, FormShape, IsForm}
 use Rattle.nif_file.specs.Head.{header_context, member}
 use Rattle.nif_file.specs.Checks.{header_check}
 use Rattle.nif_file.specs.Files.{header_line, head_of, IsHeaderLine}
-use Rattle.nif_file.proofs.HeadNumbers.{Among, Held, held, left, right, passes_once, basic_by, own_leaf, found_declared, of_basic, own_kind, struct_line, header_line_is}
-use Rattle.nif_file.proofs.KnownFiles.{bare_present}
+use Rattle.nif_file.specs.RoleLaws.{Among, Held, held, left, right, passes_once, basic_by, own_leaf, found_declared, of_basic, own_kind, struct_line, header_line_is}
+use Rattle.nif_file.specs.RoleLaws.{bare_present}
 
 -- ---- the shapes
 

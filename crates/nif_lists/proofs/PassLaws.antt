@@ -4,7 +4,7 @@ use Rattle.std.proofs.lemmas.List.{take-append-drop}
 use Rattle.nif_cells.specs.Walks.{Met}
 use Rattle.nif_value.specs.Walking.{step_of, bytes_met}
 use Rattle.nif_encode.specs.Texts.{given, depth_after}
-use Rattle.nif_encode.proofs.PutLaws.{IsPiece, none_left, opened, closed, Passes, passes_next}
+use Rattle.nif_encode.specs.PutSteps.{IsPiece, none_left, opened, closed, Passes, passes_next}
 use Rattle.nif_lists.specs.Passing.{Keeps, kept_one}
 
 -- ---- the bytes of a run, piece by piece

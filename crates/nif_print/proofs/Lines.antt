@@ -1,7 +1,7 @@
 -- The lines of types, one after another, and how many types are open and closed.
 use Rattle.std.proofs.Common.{◌≡◌, ℕ, zero, suc, ◌+◌, ◌<◌, ◌≤◌, List, [], ◌∷◌, ◌++◌, length, take, drop, refl, sym, ap, ◌∙◌, arith, append_assoc, append-nil, Option, subst, add-one}
 use Rattle.std.specs.Prelude.{slice_get, Some, None, count_by, is_some, is_none, unwrap_or, Bool, true, false}
-use Rattle.nif_stream.proofs.PutterLaws.{puts_more, fails_more}
+use Rattle.nif_stream.specs.PutterLaws.{puts_more, fails_more}
 use Rattle.std.proofs.Math.Seq.{take-length}
 use Rattle.std.proofs.lemmas.Option.{get_or_from_slice_get}
 use Rattle.std.proofs.lemmas.List.Sums.{count_by_more_yes, count_by_more_no}

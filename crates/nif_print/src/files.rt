@@ -34,7 +34,7 @@ fn reason_number(reason: Closed) -> u64
 }
 
 /// Puts two numbers with a dot between them.
-#[tactic(auto, using(nif_stream::proofs::PutterLaws::puts))]
+#[tactic(auto, using(nif_stream::specs::PutterLaws::puts))]
 fn put_two<K: Sink>(first: u8, second: u8, out: &mut Putter<'_, K>) -> Result<(), WriteFault>
     requires { IsSound out.old }
     ensures ok { OnOk result (Puts K.grew K.write_faults out.old (decimal first ++ (codes "." ++ decimal second)) out.new) }
@@ -45,7 +45,7 @@ fn put_two<K: Sink>(first: u8, second: u8, out: &mut Putter<'_, K>) -> Result<()
 }
 
 /// Puts the four parts of a version.
-#[tactic(auto, using(nif_stream::proofs::PutterLaws::puts))]
+#[tactic(auto, using(nif_stream::specs::PutterLaws::puts))]
 fn put_parts<K: Sink>(number: u32, out: &mut Putter<'_, K>) -> Result<(), WriteFault>
     requires { IsSound out.old }
     ensures ok { OnOk result (Puts K.grew K.write_faults out.old (version_text number) out.new) }
@@ -58,7 +58,7 @@ fn put_parts<K: Sink>(number: u32, out: &mut Putter<'_, K>) -> Result<(), WriteF
 }
 
 /// Puts a label and a version.
-#[tactic(auto, using(nif_stream::proofs::PutterLaws::puts))]
+#[tactic(auto, using(nif_stream::specs::PutterLaws::puts))]
 fn put_version<K: Sink>(
     label: &[u8],
     number: u32,
@@ -73,7 +73,7 @@ fn put_version<K: Sink>(
 }
 
 /// Puts a number behind a label, and another behind a second one.
-#[tactic(auto, using(nif_stream::proofs::PutterLaws::puts))]
+#[tactic(auto, using(nif_stream::specs::PutterLaws::puts))]
 fn put_counted_twice<K: Sink>(
     first: &[u8],
     n: u64,
@@ -90,7 +90,7 @@ fn put_counted_twice<K: Sink>(
 }
 
 /// Puts a number behind a label, and a text behind it.
-#[tactic(auto, using(nif_stream::proofs::PutterLaws::puts))]
+#[tactic(auto, using(nif_stream::specs::PutterLaws::puts))]
 fn put_between<K: Sink>(
     label: &[u8],
     n: u32,
@@ -120,7 +120,7 @@ fn put_found<K: Sink>(
 }
 
 /// Puts that a version is out of range.
-#[tactic(auto, using(nif_stream::proofs::PutterLaws::puts))]
+#[tactic(auto, using(nif_stream::specs::PutterLaws::puts))]
 fn put_range<K: Sink>(number: u32, out: &mut Putter<'_, K>) -> Result<(), WriteFault>
     requires { IsSound out.old }
     ensures ok { OnOk result (Puts K.grew K.write_faults out.old (file_fault_text (file.VersionRange number)) out.new) }
@@ -131,7 +131,7 @@ fn put_range<K: Sink>(number: u32, out: &mut Putter<'_, K>) -> Result<(), WriteF
 }
 
 /// Puts the versions of the line and of the field.
-#[tactic(auto, using(nif_stream::proofs::PutterLaws::puts))]
+#[tactic(auto, using(nif_stream::specs::PutterLaws::puts))]
 fn put_versions<K: Sink>(line: u32, field: u32, out: &mut Putter<'_, K>) -> Result<(), WriteFault>
     requires { IsSound out.old }
     ensures ok { OnOk result (Puts K.grew K.write_faults out.old (file_fault_text (file.VersionDisagrees line field)) out.new) }
@@ -166,7 +166,7 @@ fn put_index<K: Sink>(block: u32, index: u16, out: &mut Putter<'_, K>) -> Result
 }
 
 /// Puts that the type of a block is unknown.
-#[tactic(auto, using(nif_stream::proofs::PutterLaws::puts))]
+#[tactic(auto, using(nif_stream::specs::PutterLaws::puts))]
 fn put_unknown<K: Sink>(block: u32, name: &[u8], out: &mut Putter<'_, K>) -> Result<(), WriteFault>
     requires { IsSound out.old }
     ensures ok { OnOk result (Puts K.grew K.write_faults out.old (file_fault_text (file.UnknownType block name.now)) out.new) }
@@ -227,7 +227,7 @@ fn put_check_word<K: Sink>(
 }
 
 /// Puts the size of a block that is stated, and that which it has.
-#[tactic(auto, using(nif_stream::proofs::PutterLaws::puts))]
+#[tactic(auto, using(nif_stream::specs::PutterLaws::puts))]
 fn put_sizes<K: Sink>(
     block: u32,
     stated: u32,
@@ -282,7 +282,7 @@ pub fn put_file_fault<K: Sink>(fault: &FileFault, out: &mut Putter<'_, K>) -> Re
 }
 
 /// Puts how many nodes there are, and a line end.
-#[tactic(auto, using(nif_stream::proofs::PutterLaws::puts))]
+#[tactic(auto, using(nif_stream::specs::PutterLaws::puts))]
 fn put_nodes<K: Sink>(nodes: u64, out: &mut Putter<'_, K>) -> Result<(), WriteFault>
     requires { IsSound out.old }
     ensures ok { OnOk result (Puts K.grew K.write_faults out.old (counted (codes " nodes ") nodes ++ codes "\n") out.new) }
@@ -293,7 +293,7 @@ fn put_nodes<K: Sink>(nodes: u64, out: &mut Putter<'_, K>) -> Result<(), WriteFa
 }
 
 /// Puts how many blocks, bytes and nodes there are, and a line end.
-#[tactic(auto, using(nif_stream::proofs::PutterLaws::puts))]
+#[tactic(auto, using(nif_stream::specs::PutterLaws::puts))]
 fn put_totals<K: Sink>(
     blocks: u64,
     bytes: u64,
@@ -310,7 +310,7 @@ fn put_totals<K: Sink>(
 
 /// Puts the line of a file that is accepted: its version, and how many blocks, bytes and nodes it has. It takes no
 /// memory.
-#[tactic(auto, using(nif_stream::proofs::PutterLaws::puts))]
+#[tactic(auto, using(nif_stream::specs::PutterLaws::puts))]
 pub fn put_summary<K: Sink>(
     version: Version,
     blocks: u32,

@@ -32,7 +32,7 @@ fn text_of(reason: Closed) -> &'static [u8]
 }
 
 /// Puts the end of the line of a closed type: a blank, the reason and a line end.
-#[tactic(auto, using(nif_stream::proofs::PutterLaws::puts))]
+#[tactic(auto, using(nif_stream::specs::PutterLaws::puts))]
 fn put_reason<K: Sink>(reason: Closed, out: &mut Putter<'_, K>) -> Result<(), WriteFault>
     requires { IsSound out.old }
     ensures ok { OnOk result (Puts K.grew K.write_faults out.old (codes " " ++ (reason_text reason ++ codes "\n")) out.new) }
@@ -44,7 +44,7 @@ fn put_reason<K: Sink>(reason: Closed, out: &mut Putter<'_, K>) -> Result<(), Wr
 }
 
 /// Puts the line of a type that is closed for this reason, or nothing where it is open.
-#[tactic(auto, using(nif_stream::proofs::PutterLaws::puts))]
+#[tactic(auto, using(nif_stream::specs::PutterLaws::puts))]
 fn put_type<K: Sink>(
     name: &[u8],
     reason: Option<Closed>,
@@ -63,7 +63,7 @@ fn put_type<K: Sink>(
 }
 
 /// Puts how many types are open and how many are closed.
-#[tactic(auto, using(nif_stream::proofs::PutterLaws::puts))]
+#[tactic(auto, using(nif_stream::specs::PutterLaws::puts))]
 fn put_shares<K: Sink>(
     open_types: u64,
     closed_types: u64,
@@ -79,7 +79,7 @@ fn put_shares<K: Sink>(
 }
 
 /// Puts the totals.
-#[tactic(auto, using(nif_stream::proofs::PutterLaws::puts))]
+#[tactic(auto, using(nif_stream::specs::PutterLaws::puts))]
 fn put_totals<K: Sink>(
     open_types: u64,
     closed_types: u64,
@@ -96,7 +96,7 @@ fn put_totals<K: Sink>(
 
 /// Puts a line for each closed type in the order of the schema, and then how many types it has, open and closed.
 /// It takes no memory.
-#[tactic(auto, using(nif_stream::proofs::PutterLaws::puts))]
+#[tactic(auto, using(nif_stream::specs::PutterLaws::puts))]
 pub fn schema_list<K: Sink>(checked: &Checked, out: &mut Putter<'_, K>) -> Result<(), WriteFault>
     requires { IsSound out.old }
     ensures ok { OnOk result ((text : List ℕ) × IsListing checked.now text × Puts K.grew K.write_faults out.old text out.new) }

@@ -17,7 +17,7 @@ pub fn put_decimal<K: Sink>(number: u64, out: &mut Putter<'_, K>) -> Result<(), 
 }
 
 /// Puts a label and a number in decimal.
-#[tactic(auto, using(nif_stream::proofs::PutterLaws::puts))]
+#[tactic(auto, using(nif_stream::specs::PutterLaws::puts))]
 pub fn put_counted<K: Sink>(
     label: &[u8],
     number: u64,

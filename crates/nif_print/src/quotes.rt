@@ -50,7 +50,7 @@ fn put_bytes<K: Sink>(bytes: &[u8], out: &mut Putter<'_, K>) -> Result<(), Write
 
 /// Puts bytes in quotes: those from 0x20 to 0x7E as they are, but for the quote and the backslash; each other byte as
 /// `\x` and two digits. It takes no memory.
-#[tactic(auto, using(nif_stream::proofs::PutterLaws::puts))]
+#[tactic(auto, using(nif_stream::specs::PutterLaws::puts))]
 pub fn put_quoted<K: Sink>(bytes: &[u8], out: &mut Putter<'_, K>) -> Result<(), WriteFault>
     requires { IsSound out.old }
     ensures ok { OnOk result (Puts K.grew K.write_faults out.old (quoted bytes.now) out.new) }

@@ -9,7 +9,7 @@ use nif_schema::SchemaFault;
 use nif_stream::Putter;
 
 /// Puts that the text isn't written in the XML subset.
-#[tactic(auto, using(nif_stream::proofs::PutterLaws::puts))]
+#[tactic(auto, using(nif_stream::specs::PutterLaws::puts))]
 fn put_not_written<K: Sink>(after: u32, out: &mut Putter<'_, K>) -> Result<(), WriteFault>
     requires { IsSound out.old }
     ensures ok { OnOk result (Puts K.grew K.write_faults out.old (codes "schema S1: not written after " ++ (decimal after ++ codes " elements")) out.new) }
@@ -20,7 +20,7 @@ fn put_not_written<K: Sink>(after: u32, out: &mut Putter<'_, K>) -> Result<(), W
 }
 
 /// Puts a label and a name.
-#[tactic(auto, using(nif_stream::proofs::PutterLaws::puts))]
+#[tactic(auto, using(nif_stream::specs::PutterLaws::puts))]
 fn put_named<K: Sink>(label: &[u8], name: &[u8], out: &mut Putter<'_, K>) -> Result<(), WriteFault>
     requires { IsSound out.old }
     ensures ok { OnOk result (Puts K.grew K.write_faults out.old (label.now ++ name.now) out.new) }

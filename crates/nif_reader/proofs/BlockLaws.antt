@@ -8,7 +8,7 @@ use Rattle.nif_layout.specs.Fault.{Point, Passes}
 use Rattle.nif_file.specs.Stops.{Stop}
 use Rattle.nif_file.specs.Files.{IsBlock, AreBlocks, block_text, blocks_text, block_nodes}
 use Rattle.nif_file.specs.FileFails.{BlockFails, BlocksRead, BlocksFail}
-use Rattle.nif_file.proofs.WholeFiles.{blocks_split}
+use Rattle.nif_file.specs.BlockLaws.{blocks_split}
 
 module _ (S : Schema) (E : Env) where
   pub are_more : (k : ℕ) (blocks : List Block) (block : Block) → AreBlocks S E k blocks → IsBlock S E (k + length blocks) block → AreBlocks S E k (blocks ++ block ∷ [])

@@ -2,7 +2,7 @@
 use Rattle.std.proofs.Common.{ℕ, List, [], Option, refl, arith}
 use Rattle.nif_stream.specs.declared.takers.Taker.{Taker}
 use Rattle.nif_stream.specs.Taking.{Takes, left_of}
-use Rattle.nif_stream.proofs.TakerLaws.{keeps_same, prepended_none}
+use Rattle.nif_stream.specs.TakerLaws.{keeps_same, prepended_none}
 use Rattle.nif_decode.specs.Answers.{IsReadyTaker}
 
 module _ {S : Type 0} (left : S → Option (List ℕ)) (still : S → S → Type 0) (faults : S → ℕ) where

@@ -4,8 +4,9 @@ use Rattle.std.specs.Prelude.{IfSome}
 use Rattle.nif_base.specs.Outside.{prepended, Rose}
 use Rattle.nif_stream.specs.declared.takers.Taker.{Taker}
 use Rattle.nif_stream.specs.Taking.{Takes, source_of, place_of, left_of, bytes_of}
-use Rattle.nif_stream.proofs.TakerLaws.{if_prepended}
-use Rattle.nif_layout.specs.Fault.{Fault, Point, Passes, most_bytes, most_nodes}
+use Rattle.nif_stream.specs.TakerLaws.{if_prepended}
+use Rattle.nif_base.specs.Limits.{most_file_bytes, most_nodes}
+use Rattle.nif_layout.specs.Fault.{Fault, Point, Passes}
 use Rattle.nif_layout.specs.Fails.{Lifted}
 use Rattle.nif_decode.specs.declared.faults.ValueFault.{ValueFault}
 use Rattle.nif_decode.specs.Faults.{Cause, OfValue, cause, known}
@@ -14,11 +15,12 @@ use Rattle.nif_file.specs.declared.faults.FileFault.{FileFault}
 use Rattle.nif_file.specs.declared.faults.FileFault.TheVariants as file
 use Rattle.nif_file.specs.Stops.{Stop, of_value}
 use Rattle.nif_file.specs.HeaderReading.{fault_of}
-use Rattle.nif_file.proofs.HeaderEnds.{fault_value, fault_read, went_on, went_whole}
+use Rattle.nif_decode.specs.WentLaws.{went_on, went_whole}
+use Rattle.nif_file.specs.FaultLaws.{fault_value, fault_read}
 use Rattle.nif_reader.specs.Halting.{Part, StopsHere, Halts}
 
 -- these bytes, taken, lead from a point to the next one
-pub passes_taken : (start now nodes count : ℕ) (bytes rest : List ℕ) → now ≡ start + length bytes → now ≤ most_bytes → nodes + count ≤ most_nodes
+pub passes_taken : (start now nodes count : ℕ) (bytes rest : List ℕ) → now ≡ start + length bytes → now ≤ most_file_bytes → nodes + count ≤ most_nodes
     → Passes bytes count (record { nodes = nodes; place = start; left = bytes ++ rest }) (record { nodes = nodes + count; place = now; left = rest })
 passes_taken start now nodes count bytes rest place within few = record { here = refl; place = place; nodes = refl; within = within; counted = few }
 

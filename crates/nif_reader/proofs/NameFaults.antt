@@ -6,7 +6,8 @@ use Rattle.nif_schema.specs.Schema.{Schema}
 use Rattle.nif_stream.specs.declared.takers.Taker.{Taker}
 use Rattle.nif_stream.specs.Taking.{Takes, place_of}
 use Rattle.nif_layout.specs.Earlier.{Env}
-use Rattle.nif_layout.specs.Fault.{Point, Passes, most_nodes}
+use Rattle.nif_base.specs.Limits.{most_nodes}
+use Rattle.nif_layout.specs.Fault.{Point, Passes}
 use Rattle.nif_decode.specs.Answers.{IsReadyTaker}
 use Rattle.nif_file.specs.declared.faults.FileFault.{FileFault}
 use Rattle.nif_file.specs.Head.{index_word, order_in}

@@ -5,11 +5,12 @@ use Rattle.nif_base.specs.declared.orders.Order.{Order}
 use Rattle.nif_base.specs.Node.{number, is_little}
 use Rattle.nif_stream.specs.declared.takers.Taker.{Taker}
 use Rattle.nif_stream.specs.Taking.{Takes, left_of}
-use Rattle.nif_stream.proofs.TakerLaws.{takes_joined}
-use Rattle.nif_layout.specs.Fault.{Fault, Ended, TooLong, Point, most_bytes}
+use Rattle.nif_stream.specs.TakerLaws.{takes_joined}
+use Rattle.nif_base.specs.Limits.{most_file_bytes}
+use Rattle.nif_layout.specs.Fault.{Fault, Ended, TooLong, Point}
 use Rattle.nif_layout.specs.LeafFault.{shortage, number_at}
-use Rattle.nif_layout.proofs.Bytes.{length_number}
-use Rattle.nif_layout.proofs.Leaves.{number_again}
+use Rattle.nif_layout.specs.ByteLaws.{length_number}
+use Rattle.nif_layout.specs.ByteLaws.{number_again}
 use Rattle.nif_decode.specs.declared.faults.ValueFault.{ValueFault}
 use Rattle.nif_decode.specs.Answers.{Ends}
 use Rattle.nif_decode.specs.Faults.{cause}
@@ -26,9 +27,9 @@ sized_short order at fault e = by (ltb (length at.left) 4) refl
     n : ℕ
     n = number_at (is_little order) 4 at.left
 
-    long : (a b : Bool) → ltb most_bytes (at.place + 4) ≡ a → ltb most_bytes (at.place + length at.left) ≡ b → (if a && b then Some TooLong else None) ≡ Some fault → shortage (4 + n) at ≡ Some fault
+    long : (a b : Bool) → ltb most_file_bytes (at.place + 4) ≡ a → ltb most_file_bytes (at.place + length at.left) ≡ b → (if a && b then Some TooLong else None) ≡ Some fault → shortage (4 + n) at ≡ Some fault
     long true true p q h =
-        let far : ltb most_bytes (at.place + (4 + n)) ≡ true = lt-ltb most_bytes (at.place + (4 + n)) (let l = ltb-true most_bytes (at.place + 4) p in omega arith) in
+        let far : ltb most_file_bytes (at.place + (4 + n)) ≡ true = lt-ltb most_file_bytes (at.place + (4 + n)) (let l = ltb-true most_file_bytes (at.place + 4) p in omega arith) in
         rw (far, q) h
     long true false p q h = absurd (cc)
     long false b p q h = absurd (cc)
@@ -39,9 +40,9 @@ sized_short order at fault e = by (ltb (length at.left) 4) refl
         subst (λ k. shortage k at ≡ Some fault) (sym needs) e
     by false there =
         let needs : sized_needs order at.left ≡ 4 + n = ap (λ (b : Bool). if b then 4 else 4 + n) there in
-        let tests : (if ltb most_bytes (at.place + 4) && ltb most_bytes (at.place + length at.left) then Some TooLong else None) ≡ Some fault =
-        subst (λ (b : Bool). (if ltb most_bytes (at.place + 4) && ltb most_bytes (at.place + length at.left) then Some TooLong else if b then Some (Ended at.place) else None) ≡ Some fault) there e in
-        subst (λ k. shortage k at ≡ Some fault) (sym needs) (long (ltb most_bytes (at.place + 4)) (ltb most_bytes (at.place + length at.left)) refl refl tests)
+        let tests : (if ltb most_file_bytes (at.place + 4) && ltb most_file_bytes (at.place + length at.left) then Some TooLong else None) ≡ Some fault =
+        subst (λ (b : Bool). (if ltb most_file_bytes (at.place + 4) && ltb most_file_bytes (at.place + length at.left) then Some TooLong else if b then Some (Ended at.place) else None) ≡ Some fault) there e in
+        subst (λ k. shortage k at ≡ Some fault) (sym needs) (long (ltb most_file_bytes (at.place + 4)) (ltb most_file_bytes (at.place + length at.left)) refl refl tests)
 
 -- behind its length it needs so many bytes
 sized_long : (order : Order) (n : ℕ) (rest : List ℕ) → n < 256 ^ 4 → sized_needs order (number (is_little order) 4 n ++ rest) ≡ length (number (is_little order) 4 n) + n

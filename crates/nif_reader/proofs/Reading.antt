@@ -8,12 +8,13 @@ use Rattle.nif_schema.specs.Schema.{Schema}
 use Rattle.nif_region.specs.Contents.{find, AreApart}
 use Rattle.nif_stream.specs.declared.takers.Taker.{Taker}
 use Rattle.nif_stream.specs.Taking.{Takes, place_of}
-use Rattle.nif_stream.proofs.TakerLaws.{takes_joined}
+use Rattle.nif_stream.specs.TakerLaws.{takes_joined}
 use Rattle.nif_layout.specs.Earlier.{Env}
-use Rattle.nif_layout.specs.Fault.{Point, most_nodes}
+use Rattle.nif_base.specs.Limits.{most_nodes, most_depth}
+use Rattle.nif_layout.specs.Fault.{Point}
 use Rattle.nif_layout.specs.Fails.{Fails, Lifted}
 use Rattle.nif_decode.specs.Answers.{IsReadyTaker, Went}
-use Rattle.nif_file.proofs.HeaderEnds.{went_on, went_whole}
+use Rattle.nif_decode.specs.WentLaws.{went_on, went_whole}
 use Rattle.nif_value.specs.Trees.{Trees}
 use Rattle.nif_graph.specs.declared.parts.BlockPart.{BlockPart}
 use Rattle.nif_lists.specs.Lists.{Listed, entry_of}
@@ -22,7 +23,7 @@ use Rattle.nif_file.specs.declared.faults.FileFault.TheVariants as file
 use Rattle.nif_file.specs.declared.header.Header.{Header}
 use Rattle.nif_file.specs.Stops.{Stop, of_value}
 use Rattle.nif_file.specs.Head.{block_context, order_in, index_word, stated_size}
-use Rattle.nif_file.specs.Files.{IsBlock, block_kind, block_text, blocks_text, block_nodes, IsBlockType, IsIndexed, IsValue, head_of, most_depth, name_of, name_where, zero_word}
+use Rattle.nif_file.specs.Files.{IsBlock, block_kind, block_text, blocks_text, block_nodes, IsBlockType, IsIndexed, IsValue, head_of, name_of, name_where, zero_word}
 use Rattle.nif_file.specs.FileFails.{BlockFails, BlocksFail, FrameFails, SizeFails, TypeFails, ValueFails, ZeroFails}
 use Rattle.nif_reader.specs.Halting.{Halts}
 use Rattle.nif_reader.specs.Known.{Knows, HasBlock, HasBlocks, ReadsType, ReadsValue, block_trees, size_fault}

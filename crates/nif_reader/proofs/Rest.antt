@@ -8,12 +8,13 @@ use Rattle.nif_schema.specs.Schema.{Schema}
 use Rattle.nif_region.specs.Contents.{find, AreApart}
 use Rattle.nif_stream.specs.declared.takers.Taker.{Taker}
 use Rattle.nif_stream.specs.Taking.{Takes, left_of}
-use Rattle.nif_stream.proofs.TakerLaws.{takes_joined}
+use Rattle.nif_stream.specs.TakerLaws.{takes_joined}
 use Rattle.nif_layout.specs.Context.{Context}
 use Rattle.nif_layout.specs.Earlier.{Env}
-use Rattle.nif_layout.specs.Fault.{Point, Passes, most_nodes}
+use Rattle.nif_base.specs.Limits.{most_nodes, most_depth}
+use Rattle.nif_layout.specs.Fault.{Point, Passes}
 use Rattle.nif_layout.specs.Fails.{Fails, Lifted}
-use Rattle.nif_layout.proofs.Passing.{split}
+use Rattle.nif_layout.specs.PassLaws.{split}
 use Rattle.nif_value.specs.Trees.{Trees}
 use Rattle.nif_value.specs.declared.stores.TreeId.{TreeId}
 use Rattle.nif_graph.specs.declared.parts.BlockPart.{BlockPart}
@@ -22,9 +23,9 @@ use Rattle.nif_file.specs.declared.header.Header.{Header}
 use Rattle.nif_lists.specs.Lists.{Listed}
 use Rattle.nif_file.specs.Stops.{Stop, of_value}
 use Rattle.nif_file.specs.Head.{file_context, order_in, number_of}
-use Rattle.nif_file.specs.Files.{AreBlocks, blocks_text, block_nodes, footer_kind, head_of, most_depth}
+use Rattle.nif_file.specs.Files.{AreBlocks, blocks_text, block_nodes, footer_kind, head_of}
 use Rattle.nif_file.specs.FileFails.{BlocksRead, BlocksFail, BodyFails, IsTrailing}
-use Rattle.nif_file.proofs.WholeFiles.{blocks_split}
+use Rattle.nif_file.specs.BlockLaws.{blocks_split}
 use Rattle.nif_reader.specs.Halting.{Halts}
 use Rattle.nif_reader.specs.Known.{Knows, HasBlocks, HasRest, ReadsFooter, block_trees}
 use Rattle.nif_reader.proofs.Halting.{halts_also, halts_behind}

@@ -5,7 +5,7 @@ use Rattle.std.proofs.lemmas.Bool.Decides.{eqb_tells}
 use Rattle.nif_base.specs.Node.{Node}
 use Rattle.nif_base.specs.File.{Block}
 use Rattle.nif_region.specs.Contents.{find, AreApart}
-use Rattle.nif_region.proofs.Runs.{find-append}
+use Rattle.nif_region.specs.RunLaws.{find-append}
 use Rattle.nif_value.specs.Trees.{Trees}
 use Rattle.nif_graph.specs.declared.parts.BlockPart.{BlockPart}
 use Rattle.nif_file.specs.PartsSay.{SaysBlock, SaysBlocks}

@@ -19,7 +19,7 @@ use Rattle.nif_file.specs.Stops.{Stop}
 use Rattle.nif_file.specs.Head.{type_names, index_word, type_place}
 use Rattle.nif_file.specs.Files.{IsBlockType, IsIndexed, head_of, is_abstract, name_of}
 use Rattle.nif_file.specs.FileFails.{EntryRefused}
-use Rattle.nif_file.proofs.TypeSteps.{block_name}
+use Rattle.nif_file.specs.NameLaws.{block_name}
 use Rattle.nif_reader.specs.Types.{Refuses, RefusesKind, RefusesName, NamesNone}
 use Rattle.nif_reader.specs.Known.{Knows}
 

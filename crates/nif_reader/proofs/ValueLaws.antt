@@ -25,8 +25,8 @@ use Rattle.nif_file.specs.declared.header.Header.{Header}
 use Rattle.nif_file.specs.Stops.{of_value}
 use Rattle.nif_file.specs.HeaderReading.{fault_of}
 use Rattle.nif_file.specs.Head.{block_context, file_context, order_in, version_in}
-use Rattle.nif_file.specs.Files.{IsBlockType, block_kind, footer_kind, head_of, most_depth}
-use Rattle.nif_file.proofs.Walks.{some_same}
+use Rattle.nif_base.specs.Limits.{most_depth}
+use Rattle.nif_file.specs.Files.{IsBlockType, block_kind, footer_kind, head_of}
 use Rattle.nif_reader.specs.Halting.{Halts}
 use Rattle.nif_reader.specs.Known.{Knows, ReadsFooter, ReadsValue}
 use Rattle.nif_reader.proofs.Halting.{halts_value}
@@ -45,6 +45,10 @@ struct_block S n h = by (slice_get S n) h
     by : (o : Option Declaration) → option_and_then (λ d. Some d.what) o ≡ Some Struct → option_map_or (λ (d : Declaration). is_block d.what) o false ≡ false
     by None h = refl
     by (Some d) h = let what : d.what ≡ Struct = cc in ap is_block what
+
+-- what is there is one
+some_same : {A : Type 0} (o : Option A) (a b : A) → o ≡ Some a → o ≡ Some b → a ≡ b
+some_same o a b p q = let e : Some a ≡ Some b = sym p ∙ q in cc
 
 pub footer_root : (S : Schema) → Roles S → (footer : ℕ) → find S (codes "Footer") ≡ Some footer → IsRoot S (codes "Footer") footer
 footer_root S roles footer found =

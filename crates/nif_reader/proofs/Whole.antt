@@ -11,10 +11,11 @@ use Rattle.nif_schema.specs.declared.contexts.Context as code
 use Rattle.nif_region.specs.Contents.{find, AreApart}
 use Rattle.nif_stream.specs.declared.takers.Taker.{Taker}
 use Rattle.nif_stream.specs.Taking.{Takes, source_of, place_of, left_of}
-use Rattle.nif_stream.proofs.TakerLaws.{takes_joined}
+use Rattle.nif_stream.specs.TakerLaws.{takes_joined}
 use Rattle.nif_layout.specs.Context.{Context}
 use Rattle.nif_layout.specs.Earlier.{Env}
-use Rattle.nif_layout.specs.Fault.{Point, most_nodes}
+use Rattle.nif_base.specs.Limits.{most_nodes}
+use Rattle.nif_layout.specs.Fault.{Point}
 use Rattle.nif_decode.specs.Answers.{Went}
 use Rattle.nif_value.specs.Trees.{Trees}
 use Rattle.nif_value.specs.declared.stores.TreeId.{TreeId}
@@ -33,8 +34,9 @@ use Rattle.nif_graph.specs.declared.places.RolePlaces.{RolePlaces}
 use Rattle.nif_file.specs.Heads.{ArePlaces}
 use Rattle.nif_file.specs.HeaderReading.{HasHeader, HasNoHeader, StopsThere}
 use Rattle.nif_file.specs.PartsSay.{SaysBlocks, SaysContext, SaysFile}
-use Rattle.nif_file.proofs.SizeLaws.{size_is_length}
-use Rattle.nif_file.proofs.HeaderEnds.{header_stops_file, went_whole}
+use Rattle.nif_file.specs.LengthLaws.{size_is_length}
+use Rattle.nif_decode.specs.WentLaws.{went_whole}
+use Rattle.nif_file.specs.FaultLaws.{header_stops_file}
 use Rattle.nif_reader.specs.Halting.{StopsHere, Halts}
 use Rattle.nif_reader.specs.Known.{Knows, HasRest, block_trees}
 use Rattle.nif_reader.specs.Answers.{HasFault, HasFile, HasNoFile, HoldsFile}

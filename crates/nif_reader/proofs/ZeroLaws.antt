@@ -5,10 +5,11 @@ use Rattle.nif_base.specs.Node.{number, is_little}
 use Rattle.nif_stream.specs.declared.takers.Taker.{Taker}
 use Rattle.nif_stream.specs.Taking.{Takes, place_of, left_of}
 use Rattle.nif_layout.specs.Earlier.{Env}
-use Rattle.nif_layout.specs.Fault.{Point, most_bytes}
+use Rattle.nif_base.specs.Limits.{most_file_bytes}
+use Rattle.nif_layout.specs.Fault.{Point}
 use Rattle.nif_layout.specs.LeafFault.{shortage, number_at}
-use Rattle.nif_layout.proofs.Bytes.{length_number}
-use Rattle.nif_layout.proofs.Leaves.{number_again}
+use Rattle.nif_layout.specs.ByteLaws.{length_number}
+use Rattle.nif_layout.specs.ByteLaws.{number_again}
 use Rattle.nif_file.specs.declared.faults.FileFault.TheVariants as file
 use Rattle.nif_file.specs.Head.{order_in}
 use Rattle.nif_file.specs.FileFails.{ZeroFailsBy}
@@ -16,9 +17,9 @@ use Rattle.nif_reader.specs.Halting.{Halts}
 use Rattle.nif_reader.proofs.Halting.{halts_known}
 
 -- what is there lacks nothing
-enough : (at : Point) (k : ℕ) → at.place + k ≤ most_bytes → k ≤ length at.left → shortage k at ≡ None
+enough : (at : Point) (k : ℕ) → at.place + k ≤ most_file_bytes → k ≤ length at.left → shortage k at ≡ None
 enough at k within there =
-    let near : ltb most_bytes (at.place + k) ≡ false = le-ltb most_bytes (at.place + k) within in
+    let near : ltb most_file_bytes (at.place + k) ≡ false = le-ltb most_file_bytes (at.place + k) within in
     let long : ltb (length at.left) k ≡ false = le-ltb (length at.left) k there in
     rw (near, long) refl
 

@@ -9,7 +9,7 @@ use Rattle.nif_schema.specs.Roles.{Roles}
 use Rattle.nif_region.specs.Contents.{find, AreApart}
 use Rattle.nif_stream.specs.declared.takers.Taker.{Taker}
 use Rattle.nif_stream.specs.Taking.{Takes, left_of}
-use Rattle.nif_layout.specs.Fault.{most_nodes}
+use Rattle.nif_base.specs.Limits.{most_nodes}
 use Rattle.nif_value.specs.Trees.{Trees}
 use Rattle.nif_value.specs.declared.stores.TreeId.{TreeId}
 use Rattle.nif_graph.specs.declared.parts.BlockPart.{BlockPart}

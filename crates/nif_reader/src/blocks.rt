@@ -3,13 +3,13 @@ ghost use Rattle.std.specs.Prelude.{◌≡◌, ◌≤◌, ℕ, true, None, IfOk,
 ghost use Rattle.nif_base.specs.Node.{Members};
 ghost use Rattle.nif_region.specs.Contents.{AreApart};
 ghost use Rattle.nif_schema.specs.Schema.{Schema};
-ghost use Rattle.nif_layout.specs.Fault.{most_nodes};
+ghost use Rattle.nif_base.specs.Limits.{most_nodes, most_depth};
 ghost use Rattle.nif_layout.specs.Fails.{Fails, Lifted};
 ghost use Rattle.nif_stream.specs.Taking.{Takes};
 ghost use Rattle.nif_decode.specs.Answers.{IsReadyTaker};
 ghost use Rattle.nif_file.specs.Head.{block_context, order_in};
 ghost use Rattle.nif_file.specs.Stops.{of_value};
-ghost use Rattle.nif_file.specs.Files.{IsBlockType, block_kind, has_zero_word, head_of, most_depth, zero_where};
+ghost use Rattle.nif_file.specs.Files.{IsBlockType, block_kind, has_zero_word, head_of, zero_where};
 ghost use Rattle.nif_file.specs.FileFails.{BlockFails, BlocksFail, ZeroFailsBy};
 ghost use Rattle.nif_reader.specs.Halting.{Halts};
 ghost use Rattle.nif_lists.specs.Lists.{entry_of};

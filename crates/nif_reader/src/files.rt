@@ -3,13 +3,13 @@ ghost use Rattle.std.specs.Prelude.{◌≡◌, ◌≤◌, ℕ, [], None, IfOk, I
 ghost use Rattle.nif_base.specs.Outside.{IsAtEnd};
 ghost use Rattle.nif_region.specs.Contents.{AreApart};
 ghost use Rattle.nif_base.specs.Node.{Members};
-ghost use Rattle.nif_layout.specs.Fault.{most_nodes};
+ghost use Rattle.nif_base.specs.Limits.{most_nodes, most_depth};
 ghost use Rattle.nif_layout.specs.Fails.{Fails, Lifted};
 ghost use Rattle.nif_stream.specs.Taking.{IsSound, Takes, left_of, place_of};
 ghost use Rattle.nif_decode.specs.Answers.{IsReadyTaker, Went};
 ghost use Rattle.nif_file.specs.Head.{file_context};
 ghost use Rattle.nif_file.specs.Stops.{of_value};
-ghost use Rattle.nif_file.specs.Files.{footer_kind, head_of, most_depth};
+ghost use Rattle.nif_file.specs.Files.{footer_kind, head_of};
 ghost use Rattle.nif_file.specs.FileFails.{BodyFails, IsTrailing};
 ghost use Rattle.nif_reader.specs.Halting.{Halts};
 ghost use Rattle.nif_reader.specs.Known.{HasRest, Knows, ReadsFooter};
@@ -157,7 +157,7 @@ fn read_parts<S: Source>(
 /// Reads a file by a schema, in whatever pieces its bytes come. F1 to F23 come exactly where the bytes have that first
 /// fault (`docs/FILES.md` says each), and then at most 4,096 bytes beyond those that show it are gone; `ReadFault` only
 /// where a read failed in this call; `NoMemory` where memory ran out.
-#[tactic(auto, using(nif_stream::proofs::TakerLaws::takes))]
+#[tactic(auto, using(nif_stream::specs::TakerLaws::takes))]
 pub fn decode_file<S: Source>(
     alloc: Global,
     checked: &Checked,

@@ -3,7 +3,7 @@ ghost use Rattle.std.specs.Prelude.{◌≡◌, ◌<◌, ◌≤◌, ℕ, List, []
 ghost use Rattle.nif_base.specs.Node.{Members};
 ghost use Rattle.nif_schema.specs.Schema.{find_block};
 ghost use Rattle.nif_stream.specs.Taking.{Takes};
-ghost use Rattle.nif_layout.specs.Fault.{most_nodes};
+ghost use Rattle.nif_base.specs.Limits.{most_nodes};
 ghost use Rattle.nif_decode.specs.Answers.{IsReadyTaker};
 ghost use Rattle.nif_file.specs.Head.{index_word, order_in};
 ghost use Rattle.nif_file.specs.Files.{IsBlockType, IsIndexed, head_of, is_abstract, name_of, name_where};

@@ -9,7 +9,7 @@ use Rattle.slab.specs.Slab.{Slab, get, slab_len, Updates}
 use Rattle.nif_region.specs.Contents.{find, AreApart, cells_of, cells_built, ended, patched, IsBounded}
 use Rattle.nif_region.specs.Layout.{Segment, Live, Dead, head, layout, live_runs, place_of, runs_in, built_in, contents, IsLaid, IsKept}
 use Rattle.nif_region.specs.declared.cells.Cell.{Cell}
-use Rattle.nif_region.proofs.Runs.{find-append}
+use Rattle.nif_region.specs.RunLaws.{find-append}
 use Rattle.nif_region.proofs.Layouts.{layout-append, live_runs-append, place_of-append, runs_in-layout, runs_in-laid, live_cells-within, cells_of-append, place-none, place-among}
 
 -- the run that is being built

@@ -7,7 +7,7 @@ use Rattle.slab.specs.Slab.{Slab, get}
 use Rattle.nif_region.specs.Contents.{find, AreApart, cells_of}
 use Rattle.nif_region.specs.Layout.{Segment, Live, Dead, head, own, layout, live_runs, place_of, segments, runs_in, IsLaid}
 use Rattle.nif_region.specs.declared.cells.Cell.{Cell}
-use Rattle.nif_region.proofs.Runs.{apart-rest}
+use Rattle.nif_region.specs.RunLaws.{apart-rest}
 
 pub layout-append : (a b : List Segment) → layout (a ++ b) ≡ layout a ++ layout b
 layout-append [] b = refl

@@ -1,4 +1,3 @@
-pub mod Runs
 pub mod Layouts
 pub mod Changes
 pub mod Standing

@@ -9,7 +9,7 @@ use Rattle.slab.specs.Slab.{Slab, get, slab_len}
 use Rattle.nif_region.specs.Contents.{find, AreApart, cells_of}
 use Rattle.nif_region.specs.Layout.{Segment, Live, Dead, head, own, layout, live_runs, place_of, runs_in, built_in, IsLaid, Slides}
 use Rattle.nif_region.specs.declared.cells.Cell.{Cell}
-use Rattle.nif_region.proofs.Runs.{apart-rest}
+use Rattle.nif_region.specs.RunLaws.{apart-rest}
 use Rattle.nif_region.proofs.Layouts.{layout-append, live_runs-append, place_of-append, runs_in-laid, cells_of-append, place-none, place-among}
 use Rattle.nif_region.proofs.Changes.{option_or-none, find-one_other}
 use Rattle.nif_region.proofs.Standing.{built-last}

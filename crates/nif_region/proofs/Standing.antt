@@ -9,7 +9,7 @@ use Rattle.slab.specs.Slab.{Slab, get, slab_len, Updates, ContainsKey}
 use Rattle.nif_region.specs.Contents.{find, without, put, AreApart, cells_of, cells_built}
 use Rattle.nif_region.specs.Layout.{Segment, Live, Dead, head, own, layout, live_runs, place_of, runs_in, built_in, IsLaid, IsKept, Slides}
 use Rattle.nif_region.specs.declared.cells.Cell.{Cell}
-use Rattle.nif_region.proofs.Runs.{find-append, find-without_same, find-without_other, without-append, put-append, without-none, put-none}
+use Rattle.nif_region.specs.RunLaws.{find-append, find-without_same, find-without_other, without-append, put-append, without-none, put-none}
 use Rattle.nif_region.proofs.Layouts.{layout-append, live_runs-append, place_of-append, runs_in-layout, runs_in-laid, cells_of-append, place-none, IsStanding, standing}
 use Rattle.nif_region.proofs.Changes.{built-behind, cells_built-in, live-within}
 

@@ -1,3 +1,4 @@
 pub mod Contents
 pub mod Codes
 pub mod Layout
+pub mod RunLaws

@@ -4,13 +4,8 @@ ghost use Rattle.std.specs.Option.{option_map};
 ghost use Rattle.nif_schema.specs.Declaration.{field, formula};
 ghost use Rattle.nif_schema.specs.Roles.{has_no_condition, has_no_bounds, is_plain, is_bare, is_always, is_never, begins_by_lowest, lasts_to_highest, begins_above_highest, ends_below_lowest, is_bare_name, has_length, is_single};
 
+use nif_base::limits::{HIGHEST_VERSION, LOWEST_VERSION};
 use nif_schema::{Bound, Expr, Field, Formula};
-
-/// The lowest accepted version, 4.0.0.2.
-const LOWEST: u32 = 0x0400_0002;
-
-/// The highest accepted version, 20.2.0.7.
-const HIGHEST: u32 = 0x1402_0007;
 
 fn has_no_condition(of: &Field) -> bool
     ensures { result ≡ has_no_condition (field of.now) }
@@ -49,7 +44,7 @@ fn begins_by_lowest(since: Option<Bound>) -> bool
     match since {
         None => true,
         Some(Bound::Bad) => false,
-        Some(Bound::Read { version }) => version.number <= LOWEST,
+        Some(Bound::Read { version }) => version.number <= LOWEST_VERSION,
     }
 }
 
@@ -59,7 +54,7 @@ fn lasts_to_highest(until: Option<Bound>) -> bool
     match until {
         None => true,
         Some(Bound::Bad) => false,
-        Some(Bound::Read { version }) => HIGHEST <= version.number,
+        Some(Bound::Read { version }) => HIGHEST_VERSION <= version.number,
     }
 }
 
@@ -75,7 +70,7 @@ fn begins_above_highest(since: Option<Bound>) -> bool
     ensures { result ≡ begins_above_highest since }
 {
     match since {
-        Some(Bound::Read { version }) => HIGHEST < version.number,
+        Some(Bound::Read { version }) => HIGHEST_VERSION < version.number,
         _ => false,
     }
 }
@@ -84,7 +79,7 @@ fn ends_below_lowest(until: Option<Bound>) -> bool
     ensures { result ≡ ends_below_lowest until }
 {
     match until {
-        Some(Bound::Read { version }) => version.number < LOWEST,
+        Some(Bound::Read { version }) => version.number < LOWEST_VERSION,
         _ => false,
     }
 }

@@ -1,16 +1,15 @@
 -- What a path of names in an expression leads to.
-use Rattle.std.specs.Prelude.{ℕ, ◌≡◌, ◌&&◌, ◌||◌, not, Bool, true, false, codes, bytes_eq, if◌then◌else◌, List, [], ◌∷◌, ◌++◌, map, filter, flat_map, Some, None, option_and_then, is_some, is_none}
+use Rattle.std.specs.Prelude.{ℕ, ◌&&◌, ◌||◌, not, Bool, true, false, codes, bytes_eq, if◌then◌else◌, List, [], ◌∷◌, ◌++◌, map, filter, flat_map, Some, None, option_and_then, is_some, is_none}
 use Rattle.std.specs.declared.option.Option.{Option}
 use Rattle.std.specs.Option.{option_map_or}
 use Rattle.std.specs.List.{list_any, list_all}
-use Rattle.nif_schema.specs.Declaration.{Name, Field, Declaration}
+use Rattle.nif_schema.specs.Declaration.{Name, Field}
 use Rattle.nif_schema.specs.Expression.{Tree, Number, Arg, Path, Not, Two}
 use Rattle.nif_schema.specs.Schema.{Schema, find, fields_of}
-use Rattle.nif_schema.specs.Uses.{named, what_at, is_struct, is_generic}
-use Rattle.nif_schema.specs.declared.decls.Leaf.{Leaf}
+use Rattle.nif_schema.specs.Uses.{named, what_at, is_generic}
 use Rattle.nif_schema.specs.declared.decls.Leaf.TheVariants as leaf
 use Rattle.nif_schema.specs.declared.decls.What.{What}
-use Rattle.nif_schema.specs.declared.decls.What.TheVariants.{Basic, Stored, Struct, Block}
+use Rattle.nif_schema.specs.declared.decls.What.TheVariants.{Basic, Stored, Struct}
 use Rattle.nif_schema.specs.declared.members.BitMember.{BitMember}
 use Rattle.nif_schema.specs.declared.faults.Closed.{Closed}
 use Rattle.nif_schema.specs.declared.faults.Closed.TheVariants.{C5, C6}

@@ -1,17 +1,17 @@
 -- Why a type is closed. A type has a reason of its own, which is the first that applies to it, or it is closed
 -- because it uses a closed type; else it is open.
-use Rattle.std.specs.Prelude.{ℕ, zero, suc, ◌≡◌, ◌≢◌, ◌*◌, ◌+◌, ◌&&◌, ◌||◌, not, Bool, true, false, nat_lt, codes, bytes_eq, if◌then◌else◌, List, [], ◌∷◌, ◌++◌, map, filter, length, take, Some, None, slice_get, option_and_then, is_some, is_none}
+use Rattle.std.specs.Prelude.{ℕ, zero, suc, ◌≡◌, ◌≢◌, ◌*◌, ◌+◌, ◌&&◌, ◌||◌, not, Bool, true, false, nat_lt, bytes_eq, if◌then◌else◌, List, [], ◌∷◌, ◌++◌, map, filter, length, Some, None, slice_get, option_and_then, is_some, is_none}
 use Rattle.std.specs.declared.option.Option.{Option}
 use Rattle.std.specs.Option.{option_map_or}
 use Rattle.std.specs.List.{list_any, list_all}
-use Rattle.nif_schema.specs.Declaration.{Name, Formula, Read, Bad, Field, Declaration, inherited}
-use Rattle.nif_schema.specs.Expression.{Tree, Number, Arg, Path, Not, Two}
-use Rattle.nif_schema.specs.Schema.{Schema, find_block, parent, ancestor, fields_of, has_block, line}
+use Rattle.nif_schema.specs.Declaration.{Name, Formula, Read, Bad, Field, inherited}
+use Rattle.nif_schema.specs.Expression.{Path}
+use Rattle.nif_schema.specs.Schema.{Schema, find_block, parent, ancestor, has_block, line}
 use Rattle.nif_schema.specs.Uses.{is_own_template, named, what_at, is_struct, is_reference, is_generic, Reaches}
-use Rattle.nif_schema.specs.Paths.{paths_of, storage_width, is_number, is_number_array, path_reason, is_empty}
+use Rattle.nif_schema.specs.Paths.{paths_of, storage_width, is_number, is_number_array, path_reason}
 use Rattle.nif_schema.specs.declared.decls.Leaf.TheVariants as leaf
 use Rattle.nif_schema.specs.declared.decls.What.{What}
-use Rattle.nif_schema.specs.declared.decls.What.TheVariants.{Basic, Stored, Struct, Block}
+use Rattle.nif_schema.specs.declared.decls.What.TheVariants.{Basic, Stored}
 use Rattle.nif_schema.specs.declared.fields.Bound.{Bound}
 use Rattle.nif_schema.specs.declared.fields.Bound.TheVariants as bound
 use Rattle.nif_schema.specs.declared.fields.Exact.{Exact}

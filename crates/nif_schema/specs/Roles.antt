@@ -1,9 +1,10 @@
 -- The roles of the header and the footer: nine rules that a schema must keep for its files to be read at all. They
 -- are tried in their order, and the first that fails is told.
-use Rattle.std.specs.Prelude.{ℕ, zero, suc, ◌≡◌, ◌^◌, ◌*◌, ◌+◌, ◌==◌, ◌&&◌, ◌||◌, not, Bool, true, false, nat_lt, nat_le, codes, bytes_eq, List, [], ◌∷◌, filter, drop, if◌then◌else◌, Some, None, IsTrue, slice_get, option_and_then, is_some, is_none}
+use Rattle.std.specs.Prelude.{ℕ, zero, suc, ◌≡◌, ◌==◌, ◌&&◌, ◌||◌, not, Bool, true, false, nat_lt, nat_le, codes, bytes_eq, List, [], ◌∷◌, filter, drop, if◌then◌else◌, Some, None, IsTrue, slice_get, option_and_then, is_some, is_none}
 use Rattle.std.specs.declared.option.Option.{Option}
 use Rattle.std.specs.Option.{option_map_or}
 use Rattle.std.specs.List.{list_any, list_all}
+use Rattle.nif_base.specs.Limits.{lowest_version, highest_version}
 use Rattle.nif_schema.specs.Declaration.{Name, Formula, Read, Bad, Field}
 use Rattle.nif_schema.specs.Expression.{Path}
 use Rattle.nif_schema.specs.Schema.{Schema, find, fields_of}
@@ -12,7 +13,7 @@ use Rattle.nif_schema.specs.Paths.{paths_of}
 use Rattle.nif_schema.specs.Reasons.{IsOpen}
 use Rattle.nif_schema.specs.declared.decls.Leaf.TheVariants as leaf
 use Rattle.nif_schema.specs.declared.decls.What.{What}
-use Rattle.nif_schema.specs.declared.decls.What.TheVariants.{Basic, Stored, Struct, Block}
+use Rattle.nif_schema.specs.declared.decls.What.TheVariants.{Basic, Stored, Struct}
 use Rattle.nif_schema.specs.declared.fields.Bound.{Bound}
 use Rattle.nif_schema.specs.declared.fields.Bound.TheVariants as bound
 
@@ -70,10 +71,10 @@ is_bare f = is_plain f && (is_none f.length && has_no_bounds f)
 
 -- the accepted versions are 4.0.0.2 to 20.2.0.7
 abbrev pub lowest : ℕ
-lowest = 4 * 2 ^ 24 + 2
+lowest = lowest_version
 
 abbrev pub highest : ℕ
-highest = 20 * 2 ^ 24 + 2 * 2 ^ 16 + 7
+highest = highest_version
 
 -- A bound holds for all accepted versions.
 abbrev pub begins_by_lowest : Option Bound → Bool

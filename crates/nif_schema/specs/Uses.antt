@@ -1,14 +1,13 @@
 -- What the names in a field stand for, and which declarations a type uses.
-use Rattle.std.specs.Prelude.{ℕ, ◌≡◌, ◌&&◌, ◌||◌, Bool, true, false, codes, bytes_eq, if◌then◌else◌, List, [], ◌++◌, Some, None, Contains, flat_map, slice_get, option_and_then, option_to_list, is_some}
+use Rattle.std.specs.Prelude.{ℕ, ◌&&◌, ◌||◌, Bool, true, false, codes, bytes_eq, if◌then◌else◌, List, [], ◌++◌, Some, None, Contains, flat_map, slice_get, option_and_then, option_to_list}
 use Rattle.std.specs.declared.option.Option.{Option}
 use Rattle.std.specs.Option.{option_map_or}
 use Rattle.std.specs.List.{list_any}
-use Rattle.nif_schema.specs.Declaration.{Name, Field, Declaration}
-use Rattle.nif_schema.specs.Schema.{Schema, find, find_block, parent, fields_of}
-use Rattle.nif_schema.specs.declared.decls.Leaf.{Leaf}
+use Rattle.nif_schema.specs.Declaration.{Name, Field}
+use Rattle.nif_schema.specs.Schema.{Schema, find, parent, fields_of}
 use Rattle.nif_schema.specs.declared.decls.Leaf.TheVariants as leaf
 use Rattle.nif_schema.specs.declared.decls.What.{What}
-use Rattle.nif_schema.specs.declared.decls.What.TheVariants.{Basic, Stored, Struct, Block}
+use Rattle.nif_schema.specs.declared.decls.What.TheVariants.{Basic, Struct}
 
 -- `#T#` stands for the template of the struct, and so it names no declaration.
 unfoldable pub is_own_template : Name → Bool

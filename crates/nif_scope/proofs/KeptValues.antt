@@ -14,7 +14,7 @@ use Rattle.nif_expr.specs.Value.{is_same, first_value, look, bit, is_true, apply
 use lib.Pointwise.{pointwise_decides, bytes_decides}
 use Rattle.nif_layout.specs.PathValue.{path_value}
 use Rattle.nif_layout.specs.Present.{formula_value}
-use Rattle.nif_layout.proofs.OpenTypes.{or_left, or_right, or_cases}
+use Rattle.nif_layout.specs.OpenTypeLaws.{or_left, or_right, or_cases}
 use Rattle.nif_scope.specs.declared.settings.Setting.{Setting}
 use Rattle.nif_scope.specs.declared.entries.Entry.{Entry}
 use Rattle.nif_scope.specs.Lookup.{path_told}

@@ -13,8 +13,8 @@ use Rattle.nif_layout.specs.Earlier.{Env, behind, last_present, passed}
 use Rattle.nif_layout.specs.Form as form
 use Rattle.nif_layout.specs.Present.{formula_value}
 use Rattle.nif_layout.specs.Form.{number_at_item, is_array, array_name, width_at}
-use Rattle.nif_layout.proofs.OpenTypes.{each_any}
-use Rattle.nif_layout.proofs.OpenKnown.{each_contained}
+use Rattle.nif_layout.specs.OpenTypeLaws.{each_any}
+use Rattle.nif_layout.specs.OpenKindLaws.{each_contained}
 use Rattle.nif_scope.specs.declared.settings.Setting.{Setting}
 use Rattle.nif_scope.specs.declared.entries.Entry.{Entry}
 use Rattle.nif_scope.specs.declared.entries.Entry.TheVariants as entry

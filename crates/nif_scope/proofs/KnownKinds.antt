@@ -16,7 +16,7 @@ use Rattle.nif_schema.specs.declared.decls.What.{What}
 use Rattle.nif_schema.specs.declared.decls.What.TheVariants.{Basic, Stored, Struct, Block}
 use Rattle.nif_layout.specs.PathValue.{basic_leaf, leaf_of}
 use Rattle.nif_layout.specs.Laws.{IsOpenType, HasTemplate}
-use Rattle.nif_layout.proofs.OpenTypes.{own_facts}
+use Rattle.nif_layout.specs.OpenTypeLaws.{own_facts}
 use Rattle.nif_scope.specs.Leaves.{IsWidth, IsReadable}
 use Rattle.nif_scope.proofs.Places.{placed}
 

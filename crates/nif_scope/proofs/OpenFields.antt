@@ -11,9 +11,9 @@ use Rattle.nif_schema.specs.declared.decls.What.{What}
 use Rattle.nif_schema.specs.declared.decls.What.TheVariants.{Basic, Stored, Struct, Block}
 use Rattle.nif_layout.specs.Form.{replaced}
 use Rattle.nif_layout.specs.Laws.{IsOpenType, HasTemplate}
-use Rattle.nif_layout.proofs.Decide.{EachField}
-use Rattle.nif_layout.proofs.OpenTypes.{each_map, each_both, each_append, each_any, or_left, or_right, open_used, declared, FieldGood, TemplateGood, fields_good}
-use Rattle.nif_layout.proofs.OpenKnown.{uses_parent, each_contained}
+use Rattle.nif_layout.specs.DecideLaws.{EachField}
+use Rattle.nif_layout.specs.OpenTypeLaws.{each_map, each_both, each_append, each_any, or_left, or_right, open_used, declared, FieldGood, TemplateGood, fields_good}
+use Rattle.nif_layout.specs.OpenKindLaws.{uses_parent, each_contained}
 
 -- a declaration that has a parent is a block type, and so is its parent
 parent_is_block : (S : Schema) (n p : ℕ) (d : Declaration) → slice_get S n ≡ Some d → parent S n ≡ Some p

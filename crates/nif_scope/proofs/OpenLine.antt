@@ -8,9 +8,9 @@ use Rattle.nif_schema.specs.Uses.{named, is_struct, Here}
 use Rattle.nif_schema.specs.Reasons.{has_no_root}
 use Rattle.nif_layout.specs.Laws.{IsOpenType}
 use Rattle.nif_layout.specs.PathValue.{fields_in}
-use Rattle.nif_layout.proofs.Decide.{EachField}
-use Rattle.nif_layout.proofs.OpenTypes.{each_map, each_append, open_used, declared, own_facts, parent_within, named_found, FieldGood, fields_good}
-use Rattle.nif_layout.proofs.OpenKnown.{uses_parent}
+use Rattle.nif_layout.specs.DecideLaws.{EachField}
+use Rattle.nif_layout.specs.OpenTypeLaws.{each_map, each_append, open_used, declared, own_facts, parent_within, named_found, FieldGood, fields_good}
+use Rattle.nif_layout.specs.OpenKindLaws.{uses_parent}
 use Rattle.nif_scope.specs.declared.entries.Entry.{Entry}
 use Rattle.nif_scope.specs.declared.entries.Entry.TheVariants as entry
 use Rattle.nif_scope.specs.Lookup.{Member, Told, Nowhere, At, Bits, inside, is_here, later_told, last_told, told_at, told_bits, bits_inside, member_step, step_told}

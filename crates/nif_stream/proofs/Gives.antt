@@ -8,7 +8,7 @@ use Rattle.nif_stream.specs.declared.takers.Taker.{Taker}
 use Rattle.nif_stream.specs.declared.takers.TakeFault.{TakeFault}
 use Rattle.nif_stream.specs.declared.takers.TakeFault.TheVariants.{Ended, TooLong, ReadFault}
 use Rattle.nif_stream.specs.Taking.{bytes_of, source_of, left_of, place_of, IsSound, KeepsStill, need_fault, asked_at, Reads, Takes, Misses}
-use Rattle.nif_stream.proofs.TakerLaws.{keeps_same, keeps_joined, prepended_none, prepended_joined, if_prepended, takes_most}
+use Rattle.nif_stream.specs.TakerLaws.{keeps_same, keeps_joined, prepended_none, prepended_joined, if_prepended, takes_most}
 
 -- at most 4,096 bytes are held
 pub held_bound : (held : Held) → length (bytes_of held) ≤ 4096

@@ -1,6 +1,4 @@
 mod Gives
 mod Lines
 mod Parts
-pub mod PutterLaws
-pub mod TakerLaws
 mod Writes

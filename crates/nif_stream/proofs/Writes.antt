@@ -4,7 +4,7 @@ use Rattle.std.proofs.lemmas.List.{take-append-drop}
 use Rattle.nif_base.specs.Outside.{Rose}
 use Rattle.nif_stream.specs.declared.putters.Putter.{Putter}
 use Rattle.nif_stream.specs.Putting.{IsSound, HasFailed, HasTaken, HasPut, Adds, AddsPart, Puts, Fails}
-use Rattle.nif_stream.proofs.PutterLaws.{taken_first}
+use Rattle.nif_stream.specs.PutterLaws.{taken_first}
 
 module _ {K : Type 0} (grew : K → List ℕ → K → Type 0) (joined : (a b c : K) (x y z : List ℕ) → grew a x b → grew b y c → x ++ y ≡ z → grew a z c) where
   behind : (sent x y held bytes all : List ℕ) → x ++ y ≡ held ++ bytes → sent ++ held ≡ all → (sent ++ x) ++ y ≡ all ++ bytes

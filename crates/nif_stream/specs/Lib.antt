@@ -1,2 +1,4 @@
 pub mod Putting
 pub mod Taking
+pub mod PutterLaws
+pub mod TakerLaws

@@ -1,8 +1,9 @@
 -- What a taker has still to give, and the fault of a call that needs bytes.
-use Rattle.std.specs.Prelude.{◌≡◌, ◌≢◌, ℕ, ◌+◌, ◌-◌, ◌^◌, ◌≤◌, min, nat_lt, ◌&&◌, ◌==◌, if◌then◌else◌, List, length, take, slice_range, position, None, Some, IfSome}
+use Rattle.std.specs.Prelude.{◌≡◌, ◌≢◌, ℕ, ◌+◌, ◌-◌, ◌≤◌, min, nat_lt, ◌&&◌, ◌==◌, if◌then◌else◌, List, length, take, slice_range, position, None, Some, IfSome}
 use Rattle.std.specs.declared.option.Option.{Option}
 use Rattle.std.specs.Option.{option_map_or}
 use Rattle.std.specs.Borrow.{MutBor}
+use Rattle.nif_base.specs.Limits.{most_file_bytes}
 use Rattle.nif_base.specs.Outside.{prepended, Rose}
 use Rattle.nif_base.specs.Reading.{TakesAtMost}
 use Rattle.nif_stream.specs.declared.takers.Held.{Held}
@@ -46,12 +47,12 @@ ahead_of taker = length (bytes_of taker.held)
 -- needed go past the place 2^26 and there are more than 2^26 bytes in all, else `Ended` where fewer are left.
 unfoldable pub need_fault : ℕ → ℕ → List ℕ → Option TakeFault
 need_fault place need left =
-    if nat_lt (2 ^ 26) (place + need) && nat_lt (2 ^ 26) (place + length left) then Some TooLong
+    if nat_lt (most_file_bytes) (place + need) && nat_lt (most_file_bytes) (place + length left) then Some TooLong
     else if nat_lt (length left) need then Some Ended else None
 
 -- of so many bytes that are asked for at a place, those up to the place 2^26 and one more
 abbrev pub asked_at : ℕ → ℕ → ℕ
-asked_at place need = min need (2 ^ 26 + 1 - place)
+asked_at place need = min need (most_file_bytes + 1 - place)
 
 -- the place of the first 0x0A among the next 256 bytes
 abbrev pub line_end : List ℕ → Option ℕ
@@ -83,7 +84,7 @@ pub record Takes {S : Type 0} (left : S → Option (List ℕ)) (still : S → S 
   pub sound : IsSound new
   pub ahead : ahead_of new ≤ 4096
   pub place : place_of new ≡ place_of old + length bytes
-  pub within : place_of new ≤ 2 ^ 26
+  pub within : place_of new ≤ most_file_bytes
   pub given : left_of left old ≡ prepended bytes (left_of left new)
 
 -- A call answered this fault. Where none was answered before, it is `ReadFault` and the source's count rose, or it is

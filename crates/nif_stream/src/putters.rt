@@ -123,7 +123,7 @@ impl<'a, K: Sink> Putter<'a, K> {
     /// Puts bytes behind all that were put before. A fault comes only where a write to the sink failed in
     /// this call, or a call answered it before: the sink then has the first of all that was put, and each
     /// later call answers the fault and writes nothing.
-    #[tactic(auto, using(crate::proofs::PutterLaws::puts))]
+    #[tactic(auto, using(crate::specs::PutterLaws::puts))]
     pub fn put(&mut self, bytes: &[u8]) -> Result<(), WriteFault>
         ensures ok { OnOk result (Puts K.grew K.write_faults self.old bytes.now self.new) }
         ensures err { OnErr result (Fails K.grew K.write_faults self.old bytes.now self.new) }

@@ -1,11 +1,10 @@
 ghost use Rattle.std.specs.Prelude.{◌≡◌, ◌≢◌, ℕ, ◌+◌, ◌-◌, ◌<◌, ◌≤◌, ◌^◌, ◌↔◌, List, [], ◌∷◌, ◌++◌, length, min, IfOk, OnOk, OnErr, IfErr, IfSome, Option, Some, None, Ok, Err, take, slice_range, IsTrue, All};
+ghost use Rattle.nif_base.specs.Limits.{most_file_bytes};
 ghost use Rattle.nif_base.specs.Outside.{HasCause, prepended, IsAtEnd};
 
+use nif_base::limits::MOST_FILE_BYTES;
 use nif_base::{Failed, Source};
 use thiserror::Error;
-
-/// How many bytes a source may have in all: 2^26.
-const LONGEST: u64 = 1 << 26;
 
 /// Why bytes were not taken.
 #[derive(Debug, Drop, Clone, Copy, PartialEq, Eq, Error)]
@@ -86,7 +85,7 @@ impl Held {
 #[derive(Drop, Clone, Copy)]
 struct Place {
     taken: u64,
-    ghost within: { taken ≤ 2 ^ 26 },
+    ghost within: { taken ≤ most_file_bytes },
 }
 
 /// Takes the bytes of a source in order, through an array of 4,096 bytes that it holds itself; it takes no memory.
@@ -123,7 +122,7 @@ impl<'a, S: Source> Taker<'a, S> {
     /// How many bytes were taken by calls that succeeded: at most 2^26.
     pub fn place(&self) -> u64
         ensures place { result ≡ place_of self.now }
-        ensures bound { result ≤ 2 ^ 26 }
+        ensures bound { result ≤ most_file_bytes }
     {
         self.place.taken
     }
@@ -157,16 +156,16 @@ impl<'a, S: Source> Taker<'a, S> {
     /// Holds a byte at least, of those at most 2^26 that a source may have; `done` bytes were given in this call.
     fn ready(&mut self, done: u64) -> Result<(), TakeFault>
         requires sound { IsSound self.old }
-        requires within { place_of self.old + done ≤ 2 ^ 26 }
+        requires within { place_of self.old + done ≤ most_file_bytes }
         ensures ok { OnOk result (Reads S.left S.still S.read_faults self.old [] self.new) }
         ensures some { OnOk result (0 < ahead_of self.new) }
-        ensures room { OnOk result (place_of self.old + done < 2 ^ 26) }
+        ensures room { OnOk result (place_of self.old + done < most_file_bytes) }
         ensures err { IfErr result (Misses S.left S.still S.read_faults self.old (need_fault (place_of self.old + done) 1) 0 self.new) }
     {
         if !self.hold()? {
             return Err(self.fail(TakeFault::Ended));
         }
-        if self.place.taken + done >= LONGEST {
+        if self.place.taken + done >= MOST_FILE_BYTES {
             return Err(self.fail(TakeFault::TooLong));
         }
         Ok(())
@@ -175,16 +174,16 @@ impl<'a, S: Source> Taker<'a, S> {
     /// Gives the first bytes of a part; `done` bytes were given in this call.
     fn give(&mut self, done: u64, part: &mut [u8]) -> Result<usize, TakeFault>
         requires sound { IsSound self.old }
-        requires within { place_of self.old + done ≤ 2 ^ 26 }
+        requires within { place_of self.old + done ≤ most_file_bytes }
         requires some { 0 < length part.old }
         ensures ok { IfOk result (λ n. Reads S.left S.still S.read_faults self.old (take n part.new) self.new) }
         ensures some { IfOk result (λ n. 0 < n) }
         ensures bound { IfOk result (λ n. n ≤ length part.new) }
-        ensures room { IfOk result (λ n. place_of self.old + done + n ≤ 2 ^ 26) }
+        ensures room { IfOk result (λ n. place_of self.old + done + n ≤ most_file_bytes) }
         ensures err { IfErr result (Misses S.left S.still S.read_faults self.old (need_fault (place_of self.old + done) 1) 0 self.new) }
     {
         self.ready(done)?;
-        let room = (LONGEST - self.place.taken - done) as usize;
+        let room = (MOST_FILE_BYTES - self.place.taken - done) as usize;
         let count = part.len().min(room);
         Ok(self.held.give(&mut part[..count]))
     }
@@ -192,9 +191,9 @@ impl<'a, S: Source> Taker<'a, S> {
     /// The next byte; `done` bytes were given in this call.
     fn byte(&mut self, done: u64) -> Result<u8, TakeFault>
         requires sound { IsSound self.old }
-        requires within { place_of self.old + done ≤ 2 ^ 26 }
+        requires within { place_of self.old + done ≤ most_file_bytes }
         ensures ok { IfOk result (λ byte. Reads S.left S.still S.read_faults self.old (byte ∷ []) self.new) }
-        ensures room { OnOk result (place_of self.old + done < 2 ^ 26) }
+        ensures room { OnOk result (place_of self.old + done < most_file_bytes) }
         ensures err { IfErr result (Misses S.left S.still S.read_faults self.old (need_fault (place_of self.old + done) 1) 0 self.new) }
     {
         let mut byte = [0];
@@ -204,7 +203,7 @@ impl<'a, S: Source> Taker<'a, S> {
 
     /// Moves the place behind the bytes that were given.
     fn pass(&mut self, count: u64)
-        requires { place_of self.old + count ≤ 2 ^ 26 }
+        requires { place_of self.old + count ≤ most_file_bytes }
         ensures place { place_of self.new ≡ place_of self.old + count }
         ensures source { self.new.source ≡ self.old.source }
         ensures held { self.new.held ≡ self.old.held }

@@ -11,7 +11,7 @@ use Rattle.nif_graph.specs.declared.parts.GraphParts.{GraphParts}
 use Rattle.nif_file.specs.Files.{IsFile, head_in, nodes_of, text_of}
 use Rattle.nif_file.specs.Head.{version_in}
 use Rattle.nif_file.specs.PartsSay.{SaysFile, SaysBlocks}
-use Rattle.nif_file.proofs.SizeLaws.{size_is_length}
+use Rattle.nif_file.specs.LengthLaws.{size_is_length}
 use Rattle.nif_print.specs.Files.{summary_text}
 use Rattle.nif_tool.specs.Command.{SchemaName}
 use Rattle.nif_tool.specs.Schemas.{HasSchema}

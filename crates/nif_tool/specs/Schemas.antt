@@ -14,10 +14,6 @@ use Rattle.nif_read.specs.Schemas.{Declares, IsRefused}
 use Rattle.nif_builtin.specs.declared.builtin.TheConstants.{PLAIN, SCENE}
 use Rattle.nif_tool.specs.Command.{SchemaName, Plain, Scene, Named}
 
--- the most bytes of a schema
-abbrev pub limit : ℕ
-limit = 2 ^ 22
-
 -- the bytes are those of a tree that declares this schema
 pub record Spells (bytes : List ℕ) (schema : Schema) : Type 0 where
   pub within : length bytes ≤ limit

@@ -16,7 +16,8 @@ use Rattle.nif_file.specs.PartsSay.{SaysFile}
 use Rattle.nif_print.specs.Files.{summary_text}
 use Rattle.nif_tool.specs.Command.{SchemaName}
 use Rattle.nif_tool.specs.Meaning.{Copies, FileIs, Refused}
-use Rattle.nif_tool.specs.Schemas.{limit, HasSchema, Passes, Refuses}
+use Rattle.nif_base.specs.Limits.{most_schema_bytes}
+use Rattle.nif_tool.specs.Schemas.{HasSchema, Passes, Refuses}
 use Rattle.nif_tool.specs.declared.report.Fault.{Fault}
 use Rattle.nif_tool.specs.declared.report.Fault.TheVariants as fault
 use Rattle.nif_tool.specs.declared.files.Accepted.{Accepted}
@@ -24,7 +25,7 @@ use Rattle.nif_tool.specs.declared.files.Accepted.{Accepted}
 -- what reading the text of a schema answers
 abbrev pub LoadsText : List ℕ → Files → Result (Vec ℕ Global) Fault → Type 0
 LoadsText name files (Ok v) = get files name ≡ Some v.items
-LoadsText name files (Err (fault.Schema schema_faults.SchemaTooLong)) = FileIs name files (λ bytes. limit < length bytes)
+LoadsText name files (Err (fault.Schema schema_faults.SchemaTooLong)) = FileIs name files (λ bytes. most_schema_bytes < length bytes)
 LoadsText name files (Err fault.OpenFault) = ⊤
 LoadsText name files (Err fault.ReadFault) = ⊤
 LoadsText name files (Err fault.NoMemory) = ⊤

@@ -29,7 +29,7 @@ fn put_text<K: Sink>(fault: &Fault, out: &mut Putter<'_, K>) -> Result<(), Write
 }
 
 /// Puts the line of a refusal.
-#[tactic(auto, using(nif_stream::proofs::PutterLaws::puts))]
+#[tactic(auto, using(nif_stream::specs::PutterLaws::puts))]
 fn put_line<K: Sink>(fault: &Fault, out: &mut Putter<'_, K>) -> Result<(), WriteFault>
     requires { IsSound out.old }
     ensures ok { OnOk result (Puts K.grew K.write_faults out.old (line_of fault.now) out.new) }
@@ -44,7 +44,7 @@ fn put_line<K: Sink>(fault: &Fault, out: &mut Putter<'_, K>) -> Result<(), Write
 }
 
 /// Writes the line of a refusal.
-#[tactic(auto, using(nif_stream::proofs::PutterLaws::puts))]
+#[tactic(auto, using(nif_stream::specs::PutterLaws::puts))]
 fn write_line<K: Sink>(fault: &Fault, out: &mut K) -> Result<(), WriteFault>
     ensures ok { OnOk result (K.grew out.old (line_of fault.now) out.new) }
     ensures err { OnErr result (HasTaken K.grew out.old out.new (line_of fault.now)) }

@@ -143,7 +143,7 @@ impl<R: Files> Shelf for RealShelf<'_, R> {
 
     ghost still_opens = { λ a b p. p.opens };
 
-    ghost grew_left = { λ a b x p. refl };
+    ghost grew_left = { λ a b x p. p.left };
 
     ghost grew_desk = { λ a b x p. p.desk };
 

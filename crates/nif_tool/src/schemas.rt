@@ -6,12 +6,14 @@ ghost use Rattle.nif_schema.specs.declared.faults.SchemaFault.{SchemaFault};
 ghost use Rattle.nif_tool.specs.Command as spec_command;
 ghost use Rattle.nif_tool.specs.Refusals.{refusal_of};
 ghost use Rattle.nif_tool.specs.Words.{schema_name};
-ghost use Rattle.nif_tool.specs.Schemas.{limit, told_bytes};
+ghost use Rattle.nif_base.specs.Limits.{most_schema_bytes};
+ghost use Rattle.nif_tool.specs.Schemas.{told_bytes};
 ghost use Rattle.nif_tool.specs.Meaning.{files_of, CanLack, HasCauses, RefusedFor, ReadFrom};
 ghost use Rattle.nif_tool.specs.Steps.{LoadsText, Understands, Gets};
 
 use crate::report::Fault;
 use crate::words::SchemaName;
+use nif_base::limits::MOST_SCHEMA_BYTES;
 use nif_base::{AllFault, Failed, Kind, Shelf, read_all};
 use nif_builtin::builtin::{PLAIN, SCENE};
 use nif_check::{Checked, check};
@@ -19,12 +21,9 @@ use nif_read::read_schema;
 use nif_schema::SchemaFault;
 use std::alloc::Global;
 
-/// The most bytes of a schema.
-const MOST_BYTES: u32 = 1 << 22;
-
 /// Opens and reads the text of a schema.
 fn load_text<S: Shelf>(alloc: Global, file: &str, shelf: &mut S) -> Result<Vec<u8>, Fault>
-    ensures within { IfOk result (λ v. length v.items ≤ limit) }
+    ensures within { IfOk result (λ v. length v.items ≤ most_schema_bytes) }
     ensures loads { IfSome (files_of (S.desk shelf.old)) (λ d. LoadsText file.now d result) }
     ensures answers { IfErr result (CanLack (spec_command.Named file.now)) }
     ensures faults { IfErr result (λ f. (f ≢ Fault.Usage) × (f ≢ Fault.PrintFault)) }
@@ -37,7 +36,7 @@ fn load_text<S: Shelf>(alloc: Global, file: &str, shelf: &mut S) -> Result<Vec<u
         Ok(()) => {}
         Err(Failed) => return Err(Fault::OpenFault),
     }
-    match read_all(alloc, shelf, MOST_BYTES) {
+    match read_all(alloc, shelf, MOST_SCHEMA_BYTES) {
         Ok(bytes) => Ok(bytes),
         Err(AllFault::TooLong) => Err(Fault::Schema {
             fault: SchemaFault::SchemaTooLong,
@@ -59,7 +58,7 @@ fn refusal(fault: SchemaFault) -> Fault
 
 /// Reads and checks the text of a schema.
 fn understand(alloc: Global, bytes: &[u8]) -> Result<Checked, Fault>
-    requires { length bytes.now ≤ limit }
+    requires { length bytes.now ≤ most_schema_bytes }
     ensures value { Understands bytes.now result }
     ensures schema { IfOk result IsSchema }
     ensures answers { IfErr result (CanLack spec_command.Plain) }

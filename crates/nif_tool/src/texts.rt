@@ -14,7 +14,7 @@ use nif_print::{put_summary, schema_list};
 use nif_stream::Putter;
 
 /// Writes the listing of a schema.
-#[tactic(auto, using(nif_stream::proofs::PutterLaws::puts))]
+#[tactic(auto, using(nif_stream::specs::PutterLaws::puts))]
 fn write_list<K: Sink>(checked: &Checked, out: &mut K) -> Result<(), WriteFault>
     ensures ok { OnOk result ((text : List ℕ) × IsListing checked.now text × K.grew out.old text out.new) }
     ensures err { OnErr result ((text : List ℕ) × IsListing checked.now text × HasTaken K.grew out.old out.new text) }
@@ -40,7 +40,7 @@ pub fn print_list<K: Sink>(checked: &Checked, out: &mut K) -> Option<Fault>
 }
 
 /// Writes the line of a file.
-#[tactic(auto, using(nif_stream::proofs::PutterLaws::puts))]
+#[tactic(auto, using(nif_stream::specs::PutterLaws::puts))]
 fn write_summary<K: Sink>(parts: &GraphParts, out: &mut K) -> Result<(), WriteFault>
     ensures ok { OnOk result (K.grew out.old (parts_summary parts.now) out.new) }
     ensures err { OnErr result (HasTaken K.grew out.old out.new (parts_summary parts.now)) }

@@ -13,7 +13,7 @@ use Rattle.nif_cells.specs.Reading.{said, tree_in}
 use Rattle.nif_cells.specs.Small.{HasBytes}
 use Rattle.nif_cells.specs.Progress.{building_contents, closed_head, end_of, AreHolding}
 use Rattle.nif_cells.specs.declared.contents.Content.{Content}
-use Rattle.nif_cells.proofs.CellLaws.{closes, closed-cells, closed-inside, places-close, places-more, nodes-behind, bytes-behind, tree_known}
+use Rattle.nif_cells.specs.CellLaws.{closes, closed-cells, closed-inside, places-close, places-more, nodes-behind, bytes-behind, tree_known}
 use Rattle.nif_value.specs.Trees.{IsWithin, IsOpen, after}
 use Rattle.nif_value.specs.Kept.{IsTree, building_of}
 use Rattle.nif_value.specs.Built.{IsBuilt, Stands, StandsAlone, marks, counted, bytes_inside, kind_of, size_of, head_said, end_said}

@@ -17,7 +17,7 @@ use Rattle.nif_cells.specs.declared.contents.Content.{Content}
 use Rattle.nif_cells.specs.declared.contents.Content.TheVariants.{Place}
 use Rattle.nif_cells.specs.declared.contents.Content.TheVariants as content
 use Rattle.nif_cells.specs.declared.steps.RefView.{RefView}
-use Rattle.nif_cells.proofs.CellLaws.{tree-cells, cells-bound, tree-length, some-cell, last-place, no-place, no-index, place-there, tree-index, view_of, tree_known, target-tree, target-small, target-nodes, target-bytes_of}
+use Rattle.nif_cells.specs.CellLaws.{tree-cells, cells-bound, tree-length, some-cell, last-place, no-place, no-index, place-there, tree-index, view_of, tree_known, target-tree, target-small, target-nodes, target-bytes_of}
 use Rattle.nif_cells.specs.Small.{HasBytes}
 use Rattle.nif_value.specs.Trees.{reference_of}
 use Rattle.nif_value.specs.Kept.{IsTree, AreTrees, trees_in}

@@ -12,7 +12,7 @@ use Rattle.nif_cells.specs.Encoding.{contents, places_from, packed}
 use Rattle.nif_cells.specs.Reading.{Reading, nothing_read, said, building_in}
 use Rattle.nif_cells.specs.Progress.{building_contents, contents_of, IsOpenInside, HasBytesOpen, in_cells, unpacked}
 use Rattle.nif_cells.specs.declared.contents.Content.{Content}
-use Rattle.nif_cells.proofs.CellLaws.{read_node, read-open, in_cells-bytes, places-count, tree-cells, tree-length, cells-bound, open-cells}
+use Rattle.nif_cells.specs.CellLaws.{read_node, read-open, in_cells-bytes, places-count, tree-cells, tree-length, cells-bound, open-cells}
 use Rattle.nif_value.specs.Trees.{IsWithin, nodes_built, bytes_built, most_cells_built, of_top, Takes, after}
 use Rattle.nif_value.specs.Kept.{with_last, building_of, spare_in}
 use Rattle.nif_value.specs.Built.{IsBuilt, Stands, StandsAlone, marks, bytes_inside, Puts, MayPut}

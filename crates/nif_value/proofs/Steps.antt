@@ -15,7 +15,7 @@ use Rattle.nif_cells.specs.Progress.{building_contents, contents_of, head_of, he
 use Rattle.nif_cells.specs.declared.contents.Content.{Content}
 use Rattle.nif_cells.specs.declared.contents.Content.TheVariants.{Number, Word, Tail, Place}
 use Rattle.nif_cells.specs.declared.contents.Content.TheVariants as content
-use Rattle.nif_cells.proofs.CellLaws.{byte_cells-length, packed_left, packed_left_is, packed_bits, packed_words, placed-cells, left_out-cells, placed-inside, opened-inside, places-more, places-count, count-behind, count-absent_behind, small-behind, small-absent_behind}
+use Rattle.nif_cells.specs.CellLaws.{byte_cells-length, packed_left, packed_left_is, packed_bits, packed_words, placed-cells, left_out-cells, placed-inside, opened-inside, places-more, places-count, count-behind, count-absent_behind, small-behind, small-absent_behind}
 use Rattle.nif_value.specs.Trees.{IsWithin, nodes_built, bytes_built}
 use Rattle.nif_value.specs.Built.{IsBuilt, StandsAlone, marks, counted, bytes_inside, kind_of, size_of, empty, head_said, added, TakesContent}
 use Rattle.nif_value.specs.declared.builders.Open.{Open}

@@ -15,7 +15,7 @@ use Rattle.nif_cells.specs.declared.contents.Content.{Content}
 use Rattle.nif_cells.specs.declared.contents.Content.TheVariants.{Word, Tail, Place}
 use Rattle.nif_cells.specs.declared.contents.Content.TheVariants as content
 use Rattle.nif_cells.specs.declared.steps.Step.TheVariants as step
-use Rattle.nif_cells.proofs.CellLaws.{met-bytes, met-index, bytes_at-cells, packed_left, byte_cells-length, behind-bytes}
+use Rattle.nif_cells.specs.CellLaws.{met-bytes, met-index, bytes_at-cells, packed_left, byte_cells-length, behind-bytes}
 use Rattle.nif_value.specs.Kept.{cells_in}
 use Rattle.nif_value.specs.Walking.{walked, next_step}
 use Rattle.nif_value.specs.Ways.{HasCells, IsWay, bits_of, IsAt, IsOnWay, Moves}

@@ -1,6 +1,7 @@
 -- How a store keeps its trees: each in the cells of a run of a region.
-use Rattle.std.specs.Prelude.{ℕ, ◌+◌, ◌*◌, ◌≤◌, ◌≡◌, ◌^◌, List, [], ◌∷◌, map, min, drop, Option, None, Some, if◌then◌else◌, nat_lt, IfSome}
+use Rattle.std.specs.Prelude.{ℕ, ◌+◌, ◌*◌, ◌≤◌, ◌≡◌, List, [], ◌∷◌, map, min, drop, Option, None, Some, if◌then◌else◌, nat_lt, IfSome}
 use Rattle.std.specs.Option.{option_map}
+use Rattle.nif_base.specs.Limits.{most_file_bytes, most_nodes}
 use Rattle.nif_base.specs.Node.{Node, low_first, nodes}
 use Rattle.nif_region.specs.Contents.{Contents, cells_built, find}
 use Rattle.nif_region.specs.declared.cells.Cell.{Cell}
@@ -18,8 +19,8 @@ use Rattle.nif_value.specs.declared.walks.Span.{Span}
 pub record IsTree (cells : List Cell) : Type 0 where
   pub says : said cells ≡ tree_contents (tree_in cells)
   pub has_bytes : HasBytes (tree_in cells)
-  pub nodes_within : nodes (tree_in cells) ≤ 2 ^ 24
-  pub bytes_within : bytes_of (tree_in cells) ≤ 2 ^ 26
+  pub nodes_within : nodes (tree_in cells) ≤ most_nodes
+  pub bytes_within : bytes_of (tree_in cells) ≤ most_file_bytes
 
 -- so it is with each live run
 abbrev pub AreTrees : List (ℕ × List Cell) → Type 0

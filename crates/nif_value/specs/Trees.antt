@@ -1,6 +1,7 @@
 -- What a store holds: trees of nodes under keys, and the tree that is being built.
-use Rattle.std.specs.Prelude.{ℕ, ◌+◌, ◌*◌, ◌/◌, ◌^◌, ◌≤◌, ◌≡◌, ◌≢◌, ◌⊎◌, List, [], ◌∷◌, length, Option, None, Some, IsSome, IsSomeAnd, ◌++◌}
+use Rattle.std.specs.Prelude.{ℕ, ◌+◌, ◌*◌, ◌/◌, ◌≤◌, ◌≡◌, ◌≢◌, ◌⊎◌, List, [], ◌∷◌, length, Option, None, Some, IsSome, IsSomeAnd, ◌++◌}
 use Rattle.std.specs.Option.{option_map}
+use Rattle.nif_base.specs.Limits.{most_file_bytes, most_nodes}
 use Rattle.nif_base.specs.Node.{Node, Reference, nodes}
 use Rattle.nif_cells.specs.Building.{Building, Level, bytes_of, nodes_open, bytes_open}
 use Rattle.nif_cells.specs.declared.steps.RefView.{RefView}
@@ -47,8 +48,8 @@ after building step = option_map (λ b. step b.levels) building
 
 -- a tree is not larger than any may be
 pub record IsWithin (b : Building) : Type 0 where
-  pub nodes_within : nodes_built b ≤ 2 ^ 24
-  pub bytes_within : bytes_built b ≤ 2 ^ 26
+  pub nodes_within : nodes_built b ≤ most_nodes
+  pub bytes_within : bytes_built b ≤ most_file_bytes
   pub levels_within : length b.levels ≤ 256
 
 -- a tree is being built that takes such a step, and is within the limits after it

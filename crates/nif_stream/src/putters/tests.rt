@@ -9,7 +9,7 @@ use std::process::Abort;
 use std::test::Fail;
 
 /// Puts a mark, and a piece between two others.
-#[tactic(auto, using(crate::proofs::PutterLaws::puts))]
+#[tactic(auto, using(crate::specs::PutterLaws::puts))]
 fn put_marked<K: Sink>(out: &mut Putter<'_, K>, mark: u8, piece: &[u8]) -> Result<(), WriteFault>
     requires { IsSound out.old }
     ensures ok { OnOk result (Puts K.grew K.write_faults out.old (mark ∷ (piece.now ++ piece.now)) out.new) }
@@ -21,7 +21,7 @@ fn put_marked<K: Sink>(out: &mut Putter<'_, K>, mark: u8, piece: &[u8]) -> Resul
 }
 
 /// Writes a mark and a piece twice.
-#[tactic(auto, using(crate::proofs::PutterLaws::puts))]
+#[tactic(auto, using(crate::specs::PutterLaws::puts))]
 fn write_marked<K: Sink>(sink: &mut K, mark: u8, piece: &[u8]) -> Result<(), WriteFault>
     ensures ok { OnOk result (K.grew sink.old (mark ∷ (piece.now ++ piece.now)) sink.new) }
     ensures err { OnErr result (HasTaken K.grew sink.old sink.new (mark ∷ (piece.now ++ piece.now))) }

@@ -8,7 +8,7 @@ use nif_base::MemSource;
 use std::test::Fail;
 
 /// Fills two buffers, one after the other.
-#[tactic(auto, using(crate::proofs::TakerLaws::takes))]
+#[tactic(auto, using(crate::specs::TakerLaws::takes))]
 fn take_two<S: Source>(
     taker: &mut Taker<'_, S>,
     first: &mut [u8],
@@ -23,7 +23,7 @@ fn take_two<S: Source>(
 }
 
 /// Reads two bytes of a source, and at most 4,096 more.
-#[tactic(auto, using(crate::proofs::TakerLaws::takes))]
+#[tactic(auto, using(crate::specs::TakerLaws::takes))]
 fn read_two<S: Source>(source: &mut S, pair: &mut [u8; 2]) -> Result<(), TakeFault>
     ensures still { S.still source.old source.new }
     ensures ended { IfErr result (λ fault. fault ≡ TakeFault.Ended → IfSome (S.left source.old) (λ bytes. length bytes < 2)) }

@@ -1,4 +1,4 @@
-use Rattle.nif_cells.proofs.Sizing.{open-cells}
+use Rattle.nif_cells.specs.SizeLaws.{open-cells}
 use Rattle.nif_cells.proofs.laws.few_open.Goals as goal
 
 pub returns : goal.returns

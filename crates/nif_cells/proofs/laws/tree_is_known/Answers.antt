@@ -1,4 +1,4 @@
-use Rattle.nif_cells.proofs.Known.{tree_known}
+use Rattle.nif_cells.specs.ReadLaws.{tree_known}
 use Rattle.nif_cells.proofs.laws.tree_is_known.Goals as goal
 
 pub returns : goal.returns

@@ -1,4 +1,4 @@
-use Rattle.std.proofs.Common.{◌≡◌, ◌∙◌, None, refl, sym, ap, subst, arith}
+use Rattle.std.proofs.Common.{◌∙◌, None, refl, ap, subst, arith}
 use Rattle.nif_layout.specs.Context.{Context}
 use Rattle.nif_scope.specs.Told as kept
 use Rattle.nif_scope.specs.declared.settings.Setting.{Setting}

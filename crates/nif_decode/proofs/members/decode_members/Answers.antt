@@ -1,4 +1,4 @@
-use Rattle.std.proofs.Common.{◌≡◌, ◌∙◌, None, refl, sym, ap, subst}
+use Rattle.std.proofs.Common.{None, refl, sym, ap, subst}
 use Rattle.std.specs.Prelude.{IsSome}
 use Rattle.nif_layout.specs.Context.{Context}
 use Rattle.nif_scope.specs.declared.settings.Setting.{Setting}

@@ -1,4 +1,4 @@
-use Rattle.std.proofs.Common.{◌≡◌, ◌≤◌, ◌∙◌, Some, refl, sym, ap, subst, arith}
+use Rattle.std.proofs.Common.{◌≡◌, ◌∙◌, refl, subst, arith}
 use Rattle.nif_schema.specs.Declaration.{field}
 use Rattle.nif_decode.specs.Answers.{stand}
 use Rattle.nif_decode.specs.Faults.{cause}

@@ -4,7 +4,8 @@ use Rattle.nif_layout.specs.LeafFault.{shortage}
 use Rattle.nif_decode.specs.Faults.{take_cause}
 use Rattle.nif_decode.specs.Answers.{Ends, stand}
 use Rattle.nif_decode.specs.Runs.{RunSoFar}
-use Rattle.nif_decode.proofs.Pieces.{run_first, run_more, run_takes, run_went, run_building, piece_ends}
+use Rattle.nif_decode.specs.PieceLaws.{piece_ends}
+use Rattle.nif_decode.proofs.Pieces.{run_first, run_more, run_takes, run_went, run_building}
 use Rattle.nif_decode.proofs.runs.take_run.Goals as goal
 
 pub loop-left-init : goal.loop-left-init

@@ -29,6 +29,9 @@ read_array-read_run-requires g t c = ready_less (stand c.args.taker.now c.args.n
 pub read_array-returns-then-run-clause-trees : goal.read_array-returns-then-run-clause-trees
 read_array-returns-then-run-clause-trees g t c = c.read_run.ensures.trees
 
+pub read_array-returns-then-run-clause-counted : goal.read_array-returns-then-run-clause-counted
+read_array-returns-then-run-clause-counted g t c = c.read_run.ensures.counted
+
 pub read_array-returns-then-run-clause-answers : goal.read_array-returns-then-run-clause-answers
 read_array-returns-then-run-clause-answers g t c =
     subst (λ b. Answers g.S.Source.left g.S.Source.still g.S.Source.read_faults (context_in c.args.at.now).order (IsForm (Shape c.args.at.now.schema.now (context_in c.args.at.now) c.args.depth) (row_of b (kind_of c.args.at.now.schema.now c.args.of) c.args.count)) (FormFails (context_in c.args.at.now).order (Shape c.args.at.now.schema.now (context_in c.args.at.now) c.args.depth) (Fails c.args.at.now.schema.now (context_in c.args.at.now) c.args.depth) (row_of b (kind_of c.args.at.now.schema.now c.args.of) c.args.count)) (member_told c.args.asked)
@@ -40,6 +43,9 @@ read_array-read_row-requires g t c κs within = (omega arith, (within, (c.requir
 
 pub read_array-returns-clause-trees : goal.read_array-returns-clause-trees
 read_array-returns-clause-trees g t c = c.read_row.ensures.trees
+
+pub read_array-returns-clause-counted : goal.read_array-returns-clause-counted
+read_array-returns-clause-counted g t c = c.read_row.ensures.counted
 
 pub read_array-returns-clause-answers : goal.read_array-returns-clause-answers
 read_array-returns-clause-answers g t c =
@@ -53,6 +59,9 @@ read_group-begin_group-requires g t c =
 
 pub read_group-returns-in-Err-clause-trees : goal.read_group-returns-in-Err-clause-trees
 read_group-returns-in-Err-clause-trees g t c = c.in-Err.ensures.trees
+
+pub read_group-returns-in-Err-clause-counted : goal.read_group-returns-in-Err-clause-counted
+read_group-returns-in-Err-clause-counted g t c = c.in-Err.ensures.counted
 
 pub read_group-returns-in-Err-clause-answers : goal.read_group-returns-in-Err-clause-answers
 read_group-returns-in-Err-clause-answers g t c =
@@ -82,6 +91,9 @@ read_group-read_member-requires g t c κs le =
 pub read_group-returns-in-Err-read_member-clause-trees : goal.read_group-returns-in-Err-read_member-clause-trees
 read_group-returns-in-Err-read_member-clause-trees g t c = c.in-Err-read_member.ensures.trees ∙ c.loop-of.invariant.trees
 
+pub read_group-returns-in-Err-read_member-clause-counted : goal.read_group-returns-in-Err-read_member-clause-counted
+read_group-returns-in-Err-read_member-clause-counted g t c = c.in-Err-read_member.ensures.counted
+
 pub read_group-returns-in-Err-read_member-clause-answers : goal.read_group-returns-in-Err-read_member-clause-answers
 read_group-returns-in-Err-read_member-clause-answers g t c =
     let own = λ (f : Bor kept_field.Field). field f.now in
@@ -101,6 +113,9 @@ read_group-close-requires g t c =
 pub read_group-returns-in-Ok-tell_group-clause-trees : goal.read_group-returns-in-Ok-tell_group-clause-trees
 read_group-returns-in-Ok-tell_group-clause-trees g t c = c.close.ensures.trees ∙ c.loop-of.invariant.trees
 
+pub read_group-returns-in-Ok-tell_group-clause-counted : goal.read_group-returns-in-Ok-tell_group-clause-counted
+read_group-returns-in-Ok-tell_group-clause-counted g t c = (c.loop-of.invariant.so_far c.requires.ready).goes.counted
+
 pub read_group-returns-in-Ok-tell_group-clause-answers : goal.read_group-returns-in-Ok-tell_group-clause-answers
 read_group-returns-in-Ok-tell_group-clause-answers g t c =
     let own = λ (f : Bor kept_field.Field). field f.now in
@@ -112,6 +127,9 @@ read_group-returns-in-Ok-tell_group-clause-answers g t c =
 
 pub read_group-returns-clause-trees : goal.read_group-returns-clause-trees
 read_group-returns-clause-trees g t c = c.close.ensures.trees ∙ c.loop-of.invariant.trees
+
+pub read_group-returns-clause-counted : goal.read_group-returns-clause-counted
+read_group-returns-clause-counted g t c = (c.loop-of.invariant.so_far c.requires.ready).goes.counted
 
 pub read_group-returns-clause-answers : goal.read_group-returns-clause-answers
 read_group-returns-clause-answers g t c =
@@ -133,6 +151,9 @@ read_member-leave_out-requires-clause-group g t c = c.requires.group
 pub read_member-returns-then-not-is_present-clause-trees : goal.read_member-returns-then-not-is_present-clause-trees
 read_member-returns-then-not-is_present-clause-trees g t c = c.leave_out.ensures.trees
 
+pub read_member-returns-then-not-is_present-clause-counted : goal.read_member-returns-then-not-is_present-clause-counted
+read_member-returns-then-not-is_present-clause-counted g t c = c.leave_out.ensures.counted
+
 pub read_member-returns-then-not-is_present-clause-answers : goal.read_member-returns-then-not-is_present-clause-answers
 read_member-returns-then-not-is_present-clause-answers g t c held tells =
     left_out_answers g.S.Source.left g.S.Source.still g.S.Source.read_faults c.args.at.now c.args.depth (earlier c.args.at.now held) (field c.args.of.now) (3 * c.args.depth + 2) (stand c.args.taker.now c.args.nodes.now c.args.store.now c.args.told.now.items)
@@ -147,6 +168,9 @@ read_member-read_value-requires g t c κs le =
 
 pub read_member-returns-clause-trees : goal.read_member-returns-clause-trees
 read_member-returns-clause-trees g t c = c.read_value.ensures.trees
+
+pub read_member-returns-clause-counted : goal.read_member-returns-clause-counted
+read_member-returns-clause-counted g t c = c.read_value.ensures.counted
 
 pub read_member-returns-clause-answers : goal.read_member-returns-clause-answers
 read_member-returns-clause-answers g t c held tells =
@@ -171,6 +195,9 @@ read_one-read_text-requires g t c = record { ready = ready_less (stand c.args.ta
 
 pub read_one-returns-then-depth-eq0-clause-trees : goal.read_one-returns-then-depth-eq0-clause-trees
 read_one-returns-then-depth-eq0-clause-trees g t c = refl
+
+pub read_one-returns-then-depth-eq0-clause-counted : goal.read_one-returns-then-depth-eq0-clause-counted
+read_one-returns-then-depth-eq0-clause-counted g t c = c.requires.ready.counted
 
 pub read_one-returns-then-depth-eq0-clause-answers : goal.read_one-returns-then-depth-eq0-clause-answers
 read_one-returns-then-depth-eq0-clause-answers g t c =
@@ -197,6 +224,9 @@ read_one-unreachable-unreachable g t c = subst (λ k. IsKnown c.args.at.now.sche
 pub read_one-returns-in-Number-clause-trees : goal.read_one-returns-in-Number-clause-trees
 read_one-returns-in-Number-clause-trees g t c = c.read_number.ensures.trees
 
+pub read_one-returns-in-Number-clause-counted : goal.read_one-returns-in-Number-clause-counted
+read_one-returns-in-Number-clause-counted g t c = c.read_number.ensures.counted
+
 pub read_one-returns-in-Number-clause-answers : goal.read_one-returns-in-Number-clause-answers
 read_one-returns-in-Number-clause-answers g t c =
     of_kind g.S.Source.left g.S.Source.still g.S.Source.read_faults c.args.at.now.schema.now (context_in c.args.at.now) c.args.depth c.args.of (Number c.in-Number.width c.in-Number.little) (stand c.args.taker.now c.args.nodes.now c.args.store.now c.args.told.now.items)
@@ -204,6 +234,9 @@ read_one-returns-in-Number-clause-answers g t c =
 
 pub read_one-returns-in-Line-clause-trees : goal.read_one-returns-in-Line-clause-trees
 read_one-returns-in-Line-clause-trees g t c = c.read_line.ensures.trees
+
+pub read_one-returns-in-Line-clause-counted : goal.read_one-returns-in-Line-clause-counted
+read_one-returns-in-Line-clause-counted g t c = c.read_line.ensures.counted
 
 pub read_one-returns-in-Line-clause-answers : goal.read_one-returns-in-Line-clause-answers
 read_one-returns-in-Line-clause-answers g t c =
@@ -213,6 +246,9 @@ read_one-returns-in-Line-clause-answers g t c =
 pub read_one-returns-in-Ref-clause-trees : goal.read_one-returns-in-Ref-clause-trees
 read_one-returns-in-Ref-clause-trees g t c = c.read_ref.ensures.trees
 
+pub read_one-returns-in-Ref-clause-counted : goal.read_one-returns-in-Ref-clause-counted
+read_one-returns-in-Ref-clause-counted g t c = c.read_ref.ensures.counted
+
 pub read_one-returns-in-Ref-clause-answers : goal.read_one-returns-in-Ref-clause-answers
 read_one-returns-in-Ref-clause-answers g t c =
     of_kind g.S.Source.left g.S.Source.still g.S.Source.read_faults c.args.at.now.schema.now (context_in c.args.at.now) c.args.depth c.args.of (Ref c.in-Ref.strong c.in-Ref.wanted) (stand c.args.taker.now c.args.nodes.now c.args.store.now c.args.told.now.items)
@@ -221,6 +257,9 @@ read_one-returns-in-Ref-clause-answers g t c =
 pub read_one-returns-in-Text-clause-trees : goal.read_one-returns-in-Text-clause-trees
 read_one-returns-in-Text-clause-trees g t c = c.read_text.ensures.trees
 
+pub read_one-returns-in-Text-clause-counted : goal.read_one-returns-in-Text-clause-counted
+read_one-returns-in-Text-clause-counted g t c = c.read_text.ensures.counted
+
 pub read_one-returns-in-Text-clause-answers : goal.read_one-returns-in-Text-clause-answers
 read_one-returns-in-Text-clause-answers g t c =
     of_kind g.S.Source.left g.S.Source.still g.S.Source.read_faults c.args.at.now.schema.now (context_in c.args.at.now) c.args.depth c.args.of Text (stand c.args.taker.now c.args.nodes.now c.args.store.now c.args.told.now.items)
@@ -228,6 +267,9 @@ read_one-returns-in-Text-clause-answers g t c =
 
 pub read_one-returns-else-depth-eq0-clause-trees : goal.read_one-returns-else-depth-eq0-clause-trees
 read_one-returns-else-depth-eq0-clause-trees g t c = c.read_group.ensures.trees
+
+pub read_one-returns-else-depth-eq0-clause-counted : goal.read_one-returns-else-depth-eq0-clause-counted
+read_one-returns-else-depth-eq0-clause-counted g t c = c.read_group.ensures.counted
 
 pub read_one-returns-else-depth-eq0-clause-answers : goal.read_one-returns-else-depth-eq0-clause-answers
 read_one-returns-else-depth-eq0-clause-answers g t c =
@@ -242,6 +284,9 @@ read_row-begin_row-requires g t c = ready_less (stand c.args.taker.now c.args.no
 pub read_row-returns-in-Err-clause-trees : goal.read_row-returns-in-Err-clause-trees
 read_row-returns-in-Err-clause-trees g t c = c.begin_row.ensures.trees
 
+pub read_row-returns-in-Err-clause-counted : goal.read_row-returns-in-Err-clause-counted
+read_row-returns-in-Err-clause-counted g t c = c.begin_row.ensures.counted
+
 pub read_row-returns-in-Err-clause-answers : goal.read_row-returns-in-Err-clause-answers
 read_row-returns-in-Err-clause-answers g t c =
     row_unbegun g.S.Source.left g.S.Source.still g.S.Source.read_faults (context_in c.args.at.now).order (Shape c.args.at.now.schema.now (context_in c.args.at.now) c.args.depth) (Fails c.args.at.now.schema.now (context_in c.args.at.now) c.args.depth) (λ i. One (kind_of c.args.at.now.schema.now c.args.of)) c.args.count (3 * c.args.depth + 1)
@@ -255,6 +300,9 @@ read_row-read_one-requires g t c κs within =
 
 pub read_row-returns-in-Err-read_one-clause-trees : goal.read_row-returns-in-Err-read_one-clause-trees
 read_row-returns-in-Err-read_one-clause-trees g t c = c.read_one.ensures.trees ∙ c.loop-item.invariant.trees
+
+pub read_row-returns-in-Err-read_one-clause-counted : goal.read_row-returns-in-Err-read_one-clause-counted
+read_row-returns-in-Err-read_one-clause-counted g t c = c.read_one.ensures.counted
 
 pub read_row-returns-in-Err-read_one-clause-answers : goal.read_row-returns-in-Err-read_one-clause-answers
 read_row-returns-in-Err-read_one-clause-answers g t c =
@@ -303,6 +351,9 @@ read_row-end_items-requires g t c =
 pub read_row-returns-clause-trees : goal.read_row-returns-clause-trees
 read_row-returns-clause-trees g t c = c.close.ensures.trees ∙ c.loop-item.invariant.trees
 
+pub read_row-returns-clause-counted : goal.read_row-returns-clause-counted
+read_row-returns-clause-counted g t c = c.loop-item.invariant.so_far.goes.counted
+
 pub read_row-returns-clause-answers : goal.read_row-returns-clause-answers
 read_row-returns-clause-answers g t c =
     let long : length c.args.told.now.items ≡ c.len-start.result = omega (arith, c.len-start.ensures, c.args.told.now.ok.0) in
@@ -317,6 +368,9 @@ read_rows-begin_row-requires g t c = ready_less (stand c.args.taker.now c.args.n
 
 pub read_rows-returns-in-Err-clause-trees : goal.read_rows-returns-in-Err-clause-trees
 read_rows-returns-in-Err-clause-trees g t c = c.begin_row.ensures.trees
+
+pub read_rows-returns-in-Err-clause-counted : goal.read_rows-returns-in-Err-clause-counted
+read_rows-returns-in-Err-clause-counted g t c = c.begin_row.ensures.counted
 
 pub read_rows-returns-in-Err-clause-answers : goal.read_rows-returns-in-Err-clause-answers
 read_rows-returns-in-Err-clause-answers g t c held tells =
@@ -343,6 +397,9 @@ read_rows-read_array-requires g t c κs within =
 
 pub read_rows-returns-in-Err-read_array-clause-trees : goal.read_rows-returns-in-Err-read_array-clause-trees
 read_rows-returns-in-Err-read_array-clause-trees g t c = c.read_array.ensures.trees ∙ c.loop-row.invariant.trees
+
+pub read_rows-returns-in-Err-read_array-clause-counted : goal.read_rows-returns-in-Err-read_array-clause-counted
+read_rows-returns-in-Err-read_array-clause-counted g t c = c.read_array.ensures.counted
 
 pub read_rows-returns-in-Err-read_array-clause-answers : goal.read_rows-returns-in-Err-read_array-clause-answers
 read_rows-returns-in-Err-read_array-clause-answers g t c held tells =
@@ -397,6 +454,9 @@ read_rows-end_items-requires g t c =
 pub read_rows-returns-clause-trees : goal.read_rows-returns-clause-trees
 read_rows-returns-clause-trees g t c = c.close.ensures.trees ∙ c.loop-row.invariant.trees
 
+pub read_rows-returns-clause-counted : goal.read_rows-returns-clause-counted
+read_rows-returns-clause-counted g t c = c.loop-row.invariant.so_far.goes.counted
+
 pub read_rows-returns-clause-answers : goal.read_rows-returns-clause-answers
 read_rows-returns-clause-answers g t c held tells =
     let long : length c.args.told.now.items ≡ c.len-end.result = omega (arith, c.len-end.ensures, c.args.told.now.ok.0) in
@@ -436,6 +496,9 @@ read_value-read_rows-requires g t c κs le =
 pub read_value-returns-in-One-clause-trees : goal.read_value-returns-in-One-clause-trees
 read_value-returns-in-One-clause-trees g t c = c.read_one.ensures.trees
 
+pub read_value-returns-in-One-clause-counted : goal.read_value-returns-in-One-clause-counted
+read_value-returns-in-One-clause-counted g t c = c.read_one.ensures.counted
+
 pub read_value-returns-in-One-clause-answers : goal.read_value-returns-in-One-clause-answers
 read_value-returns-in-One-clause-answers g t c held tells =
     let kind = kind_of c.args.at.now.schema.now c.form_of-kind.result.0 in
@@ -448,6 +511,9 @@ read_value-returns-in-One-clause-answers g t c held tells =
 pub read_value-returns-in-Array-clause-trees : goal.read_value-returns-in-Array-clause-trees
 read_value-returns-in-Array-clause-trees g t c = c.read_array.ensures.trees
 
+pub read_value-returns-in-Array-clause-counted : goal.read_value-returns-in-Array-clause-counted
+read_value-returns-in-Array-clause-counted g t c = c.read_array.ensures.counted
+
 pub read_value-returns-in-Array-clause-answers : goal.read_value-returns-in-Array-clause-answers
 read_value-returns-in-Array-clause-answers g t c held tells =
     let kind = kind_of c.args.at.now.schema.now c.form_of-kind.result.0 in
@@ -459,6 +525,9 @@ read_value-returns-in-Array-clause-answers g t c held tells =
 
 pub read_value-returns-in-Rows-clause-trees : goal.read_value-returns-in-Rows-clause-trees
 read_value-returns-in-Rows-clause-trees g t c = c.read_rows.ensures.trees
+
+pub read_value-returns-in-Rows-clause-counted : goal.read_value-returns-in-Rows-clause-counted
+read_value-returns-in-Rows-clause-counted g t c = c.read_rows.ensures.counted
 
 pub read_value-returns-in-Rows-clause-answers : goal.read_value-returns-in-Rows-clause-answers
 read_value-returns-in-Rows-clause-answers g t c held tells =

@@ -1,5 +1,5 @@
 use Rattle.std.proofs.Common.{length}
-use Rattle.nif_encode.proofs.PutLaws.{Passes}
+use Rattle.nif_encode.specs.PutSteps.{Passes}
 use Rattle.nif_encode.proofs.steps.pass_one.Given as goal
 
 abbrev pub invariant-loop-step : goal.invariant-loop-step

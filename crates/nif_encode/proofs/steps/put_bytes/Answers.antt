@@ -1,5 +1,6 @@
 use Rattle.std.proofs.Common.{[], take, refl, ◌∙◌}
-use Rattle.nif_encode.proofs.PutLaws.{IsPiece, puts_none, piece_of, copies_more, copies_failed}
+use Rattle.nif_encode.specs.PutSteps.{IsPiece}
+use Rattle.nif_encode.proofs.PutLaws.{puts_none, piece_of, copies_more, copies_failed}
 use Rattle.nif_encode.proofs.steps.put_bytes.Goals as goal
 
 pub loop-piece-init : goal.loop-piece-init

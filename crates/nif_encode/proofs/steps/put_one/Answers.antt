@@ -2,7 +2,7 @@ use Rattle.std.proofs.Common.{◌≡◌, [], refl, sym, ◌∙◌, ap, subst, ar
 use Rattle.nif_stream.specs.Putting.{Puts, Fails}
 use Rattle.nif_value.specs.Walking.{step_of, walked}
 use Rattle.nif_encode.specs.Texts.{step_text, met_text, depth_after}
-use Rattle.nif_encode.proofs.TextLaws.{Meets, meets}
+use Rattle.nif_encode.specs.TextLaws.{Meets, meets}
 use Rattle.nif_encode.proofs.PutLaws.{Spells, puts_none, spells_next, spells_last, spells_failed}
 use Rattle.nif_encode.proofs.steps.put_one.Goals as goal
 

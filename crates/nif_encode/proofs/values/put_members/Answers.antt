@@ -3,7 +3,7 @@ use Rattle.std.proofs.lemmas.Result.{on_ok_weaker, on_err_weaker}
 use Rattle.nif_region.specs.Contents.{find}
 use Rattle.nif_value.specs.Walking.{walked}
 use Rattle.nif_encode.specs.Texts.{behind_one, behind_many, some_text}
-use Rattle.nif_encode.proofs.TextLaws.{many_more}
+use Rattle.nif_encode.specs.TextLaws.{many_more}
 use Rattle.nif_encode.proofs.PutLaws.{some_puts, some_fails, fails_at_once}
 use Rattle.nif_encode.proofs.values.put_members.Goals as goal
 

@@ -5,7 +5,8 @@ use Rattle.nif_cells.specs.Building.{Building, closed}
 use Rattle.nif_value.specs.Trees.{IsOpen, IsWhole, after, with_tree}
 use Rattle.nif_region.specs.Contents.{find}
 use Rattle.nif_file.specs.Files.{head_of}
-use Rattle.nif_file.proofs.HeaderEnds.{memory_ends, went_same}
+use Rattle.nif_decode.specs.WentLaws.{went_same}
+use Rattle.nif_file.proofs.HeaderEnds.{memory_ends}
 use Rattle.nif_file.proofs.HeaderWhole.{has_header, lacks_ends}
 use Rattle.nif_file.proofs.header.read_header.Goals as goal
 

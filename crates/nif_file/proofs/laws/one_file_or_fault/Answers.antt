@@ -1,4 +1,4 @@
-use Rattle.nif_layout.proofs.Theorems.{type_or_fails, one_of_form, line_or_fails, one_of_line}
+use Rattle.nif_layout.specs.ValueLaws.{type_or_fails, one_of_form, line_or_fails, one_of_line}
 use Rattle.nif_file.proofs.KnownFiles.{known_within}
 use Rattle.nif_file.proofs.WholeFiles.{file_or_fault, one_file, one_place}
 use Rattle.nif_file.proofs.laws.one_file_or_fault.Goals as goal

@@ -1,4 +1,4 @@
-use Rattle.nif_layout.proofs.Theorems.{form_or_fails}
+use Rattle.nif_layout.specs.ValueLaws.{form_or_fails}
 use Rattle.nif_layout.proofs.laws.form_spelled_or_fails.Goals as goal
 
 pub returns : goal.returns

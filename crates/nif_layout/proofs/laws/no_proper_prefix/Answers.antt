@@ -1,4 +1,4 @@
-use Rattle.nif_layout.proofs.Theorems.{no_prefix}
+use Rattle.nif_layout.specs.ValueLaws.{no_prefix}
 use Rattle.nif_layout.proofs.laws.no_proper_prefix.Goals as goal
 
 pub returns : goal.returns

@@ -1,4 +1,4 @@
-use Rattle.nif_layout.proofs.Theorems.{one_of_line}
+use Rattle.nif_layout.specs.ValueLaws.{one_of_line}
 use Rattle.nif_layout.proofs.laws.one_line.Goals as goal
 
 pub returns : goal.returns

@@ -1,4 +1,4 @@
-use Rattle.nif_layout.proofs.Theorems.{one_node}
+use Rattle.nif_layout.specs.ValueLaws.{one_node}
 use Rattle.nif_layout.proofs.laws.same_bytes_same_node.Goals as goal
 
 pub returns : goal.returns

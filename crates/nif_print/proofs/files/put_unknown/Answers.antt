@@ -1,6 +1,6 @@
 use Rattle.std.proofs.Common.{◌++◌, [], codes, refl, append-nil}
 use Rattle.std.proofs.lemmas.Result.{on_ok_weaker, on_err_weaker}
-use Rattle.nif_stream.proofs.PutterLaws.{puts_more, fails_more, fails_before}
+use Rattle.nif_stream.specs.PutterLaws.{puts_more, fails_more, fails_before}
 use Rattle.nif_print.specs.Quoted.{quoted}
 use Rattle.nif_print.specs.Files.{counted}
 use Rattle.nif_print.proofs.files.put_unknown.Goals as goal

@@ -1,5 +1,5 @@
 use Rattle.std.proofs.Common.{◌+◌, ◌++◌, [], take, drop, slice_index_or, refl, ap, ◌∙◌, arith}
-use Rattle.nif_stream.proofs.PutterLaws.{adds_none, puts_more, fails_more}
+use Rattle.nif_stream.specs.PutterLaws.{adds_none, puts_more, fails_more}
 use Rattle.nif_print.specs.Quoted.{quoted_byte, quoted_bytes}
 use Rattle.nif_print.proofs.Quoting.{quoted_next, quoted_rest}
 use Rattle.nif_print.proofs.quotes.put_bytes.Goals as goal

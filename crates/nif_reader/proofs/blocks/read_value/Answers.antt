@@ -5,7 +5,8 @@ use Rattle.nif_decode.specs.Decodes.{context_for, Decoded, Refused}
 use Rattle.nif_file.specs.declared.faults.FileFault.{FileFault}
 use Rattle.nif_file.specs.Stops.{of_value}
 use Rattle.nif_file.specs.Head.{block_context}
-use Rattle.nif_file.specs.Files.{block_kind, head_of, most_depth}
+use Rattle.nif_base.specs.Limits.{most_depth}
+use Rattle.nif_file.specs.Files.{block_kind, head_of}
 use Rattle.nif_reader.specs.Halting.{Halts}
 use Rattle.nif_reader.proofs.ValueLaws.{block_here, value_read, value_refused}
 use Rattle.nif_reader.proofs.blocks.read_value.Goals as goal

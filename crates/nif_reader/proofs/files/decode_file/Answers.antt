@@ -1,5 +1,5 @@
 use Rattle.std.proofs.Common.{◌∙◌, arith}
-use Rattle.nif_stream.proofs.TakerLaws.{still_kept}
+use Rattle.nif_stream.specs.TakerLaws.{still_kept}
 use Rattle.nif_reader.proofs.files.decode_file.Goals as goal
 
 pub returns-clause-still : goal.returns-clause-still

@@ -1,11 +1,11 @@
 use Rattle.std.proofs.Common.{◌≡◌, ◌+◌, ◌≤◌, List, ℕ, ◌++◌, length, length-append, length-take, refl, sym, ◌∙◌, ap, subst, arith}
 use Rattle.nif_stream.specs.Taking.{Takes}
-use Rattle.nif_stream.proofs.TakerLaws.{takes_joined}
+use Rattle.nif_stream.specs.TakerLaws.{takes_joined}
 use Rattle.nif_layout.specs.LeafFault.{shortage}
 use Rattle.nif_decode.specs.Answers.{Ends}
 use Rattle.nif_decode.specs.Faults.{take_cause}
-use Rattle.nif_decode.proofs.Pieces.{piece_ends}
-use Rattle.nif_file.proofs.HeaderEnds.{went_whole}
+use Rattle.nif_decode.specs.PieceLaws.{piece_ends}
+use Rattle.nif_decode.specs.WentLaws.{went_whole}
 use Rattle.nif_reader.proofs.Going.{takes_none}
 use Rattle.nif_reader.proofs.names.take_bytes.Goals as goal
 

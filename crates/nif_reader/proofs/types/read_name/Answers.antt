@@ -4,11 +4,11 @@ use Rattle.nif_base.specs.declared.orders.Order.{Order}
 use Rattle.nif_base.specs.Node.{Members}
 use Rattle.nif_schema.specs.Schema.{find_block}
 use Rattle.nif_stream.specs.Taking.{Takes}
-use Rattle.nif_layout.specs.Fault.{most_nodes}
+use Rattle.nif_base.specs.Limits.{most_nodes}
 use Rattle.nif_file.specs.Head.{order_in}
 use Rattle.nif_file.specs.Files.{IsBlockType, head_of, name_of, sized_string}
 use Rattle.nif_file.specs.FileFails.{NameFails, PartFails, sized_needs}
-use Rattle.nif_file.proofs.TypeSteps.{block_name}
+use Rattle.nif_file.specs.NameLaws.{block_name}
 use Rattle.nif_reader.specs.Halting.{Halts}
 use Rattle.nif_reader.specs.Types.{RefusesName}
 use Rattle.nif_reader.proofs.Halting.{halts_also}

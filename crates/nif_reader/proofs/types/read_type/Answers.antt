@@ -2,7 +2,7 @@ use Rattle.std.proofs.Common.{◌≡◌, ◌≤◌, ℕ, Option, Some, None, sym
 use Rattle.std.proofs.lemmas.Result.{IfErr-weaker, IfOk-weaker}
 use Rattle.nif_base.specs.Node.{Members}
 use Rattle.nif_stream.specs.Taking.{Takes}
-use Rattle.nif_layout.specs.Fault.{most_nodes}
+use Rattle.nif_base.specs.Limits.{most_nodes}
 use Rattle.std.specs.Prelude.{IfSome, slice_get}
 use Rattle.nif_file.specs.Head.{index_word, order_in, type_names, type_place}
 use Rattle.nif_file.specs.Files.{IsBlockType, IsIndexed, head_of, name_of, name_where}

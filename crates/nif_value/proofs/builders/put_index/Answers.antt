@@ -3,7 +3,7 @@ use Rattle.std.proofs.lemmas.List.{take_more, take_all, length-take-le}
 use Rattle.nif_region.specs.Contents.{Contents}
 use Rattle.nif_cells.specs.Encoding.{index_from}
 use Rattle.nif_cells.specs.declared.contents.Content.TheVariants.{Place}
-use Rattle.nif_cells.proofs.CellLaws.{index-length}
+use Rattle.nif_cells.specs.CellLaws.{index-length}
 use Rattle.nif_value.specs.Built.{Puts}
 use Rattle.nif_value.proofs.Standing.{puts-none, puts-more, may-put}
 use Rattle.nif_value.proofs.builders.put_index.Goals as goal

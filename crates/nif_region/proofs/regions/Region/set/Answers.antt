@@ -1,7 +1,7 @@
 use Rattle.std.proofs.Common.{◌≡◌, ◌+◌, ◌<◌, length, ap, ◌∙◌, arith, set}
 use Rattle.nif_region.specs.Contents.{find, put}
 use Rattle.nif_region.specs.Layout.{runs_in, built_in, layout, IsKept}
-use Rattle.nif_region.proofs.Runs.{find-put_same, find-put_other}
+use Rattle.nif_region.specs.RunLaws.{find-put_same, find-put_other}
 use Rattle.nif_region.proofs.Layouts.{standing}
 use Rattle.nif_region.proofs.Changes.{bounded}
 use Rattle.nif_region.proofs.Standing.{the_run, has_place, IsHeld, held, held-within, kept-set, runs-set, same_built-set}

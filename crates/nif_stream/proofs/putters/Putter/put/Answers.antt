@@ -1,5 +1,5 @@
 use Rattle.std.proofs.Common.{[], refl, arith}
-use Rattle.nif_stream.proofs.PutterLaws.{adds_joined}
+use Rattle.nif_stream.specs.PutterLaws.{adds_joined}
 use Rattle.nif_stream.proofs.Writes.{puts_write, fails_again}
 use Rattle.nif_stream.proofs.putters.Putter.put.Goals as goal
 

@@ -12,10 +12,10 @@ returns-then-not-branch-clause-err g c =
     (misses_fail g.S.Source.left g.S.Source.still g.S.Source.read_faults c.args.self.now c.hold.new.self c.fail.new.self [] (need_fault place 1) 0 Ended c.in_ok-hold.ensures.ok c.fail.ensures.stays (λ e. cc) (omega arith)
     (end_told (left_of g.S.Source.left c.hold.new.self) place (c.in_ok-hold.ensures.end none) c.requires.within))
 
-pub returns-then-self-done-ge-LONGEST-clause-err : goal.returns-then-self-done-ge-LONGEST-clause-err
-returns-then-self-done-ge-LONGEST-clause-err g c =
+pub returns-then-self-done-ge-MOST_FILE_BYTES-clause-err : goal.returns-then-self-done-ge-MOST_FILE_BYTES-clause-err
+returns-then-self-done-ge-MOST_FILE_BYTES-clause-err g c =
     let place = place_of c.args.self.now + c.args.done in
-    let fail = c.fail-then-self-done-ge-LONGEST in
+    let fail = c.fail-then-self-done-ge-MOST_FILE_BYTES in
     rw fail.ensures.fault
     (misses_fail g.S.Source.left g.S.Source.still g.S.Source.read_faults c.args.self.now c.hold.new.self fail.new.self [] (need_fault place 1) 0 TooLong c.in_ok-hold.ensures.ok fail.ensures.stays (λ e. cc) (omega arith)
     (long_told (g.S.Source.left (source_of c.hold.new.self)) (bytes_of c.hold.new.self.held) place (c.in_ok-hold.ensures.some.0 c.if-not-branch.false) (omega (arith, c.in_ok-hold.ensures.ok.place))))

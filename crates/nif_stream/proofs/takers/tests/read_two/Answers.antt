@@ -1,7 +1,7 @@
 use Rattle.std.proofs.Common.{◌<◌, length, List, ℕ, Some, subst, ap, ◌∙◌, arith}
 use Rattle.std.specs.Prelude.{IfSome}
 use Rattle.std.proofs.lemmas.Result.{err_from_is_err_and}
-use Rattle.nif_stream.proofs.TakerLaws.{need_short, told_weaker}
+use Rattle.nif_stream.specs.TakerLaws.{need_short, told_weaker}
 use Rattle.nif_stream.proofs.takers.tests.read_two.Goals as goal
 
 pub returns-in_err-take-clause-ended : goal.returns-in_err-take-clause-ended

@@ -8,7 +8,7 @@ use Rattle.nif_value.proofs.Standing.{built-few, built-size, puts-is}
 use Rattle.nif_value.proofs.Closing.{IsEnded, ended-of, ended-tree}
 use Rattle.nif_value.proofs.Ending.{fresh-trees, one-more, trees-more, others-stay, spare-falls}
 use Rattle.nif_value.proofs.Live.{tree-known}
-use Rattle.nif_cells.proofs.CellLaws.{index-length}
+use Rattle.nif_cells.specs.CellLaws.{index-length}
 use Rattle.nif_value.proofs.stores.Store.finish.Goals as goal
 
 pub put_index-requires : goal.put_index-requires

@@ -1,6 +1,6 @@
 use Rattle.std.proofs.Common.{ap, ◌∙◌, sym, subst}
 use Rattle.nif_cells.specs.Reading.{said, met_in, tree_in}
-use Rattle.nif_cells.proofs.CellLaws.{met-tree}
+use Rattle.nif_cells.specs.CellLaws.{met-tree}
 use Rattle.nif_value.specs.Kept.{IsTree, cells_in}
 use Rattle.nif_value.proofs.Live.{some_live, there}
 use Rattle.nif_value.proofs.stores.Store.walk.Goals as goal

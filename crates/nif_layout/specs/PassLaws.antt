@@ -1,7 +1,8 @@
--- From point to point of a file.
+-- Laws of passing from point to point of a file: bytes and nodes one behind another.
 use Rattle.std.proofs.Common.{◌≡◌, ℕ, ◌+◌, ◌<◌, ◌≤◌, List, ◌++◌, length, refl, sym, ◌∙◌, ap, arith, append_assoc, length-append}
 use Rattle.std.proofs.lemmas.List.{append_cancel_left}
-use Rattle.nif_layout.specs.Fault.{Point, Passes, one_more, most_bytes, most_nodes}
+use Rattle.nif_base.specs.Limits.{most_file_bytes, most_nodes}
+use Rattle.nif_layout.specs.Fault.{Point, Passes, one_more}
 
 -- the point behind these bytes and nodes, before the rest of them
 pub split : (s t : List ℕ) (m n : ℕ) (at next : Point) → Passes (s ++ t) (m + n) at next
@@ -11,7 +12,7 @@ split s t m n at next p =
     let len : length (s ++ t) ≡ length s + length t = length-append s t in
     let behind : next.place ≡ at.place + length (s ++ t) = p.place in
     let count : next.nodes ≡ at.nodes + (m + n) = p.nodes in
-    let w : next.place ≤ most_bytes = p.within in
+    let w : next.place ≤ most_file_bytes = p.within in
     let c : next.nodes ≤ most_nodes = p.counted in (
       mid,
       record { here = p.here ∙ append_assoc s t next.left; place = refl; nodes = refl; within = omega arith; counted = omega arith },

@@ -1,31 +1,18 @@
 -- A leaf that is read doesn't fail.
-use Rattle.std.proofs.Common.{◌≡◌, ℕ, zero, suc, ◌+◌, ◌^◌, ◌<◌, ◌≤◌, ◌≢◌, Bool, true, false, ◌||◌, Option, Some, None, List, [], ◌∷◌, ◌++◌, length, take, reverse, refl, sym, ◌∙◌, ap, subst, ap₂, append-nil, add-one, arith, length-append, append_assoc, le-ltb, lt-ltb, ltb, ne_eqb, eqb}
-use Rattle.std.proofs.Math.Seq.{take-append_seam}
-use Rattle.std.proofs.lemmas.List.{reverse-reverse}
-use Rattle.nif_base.specs.Node.{is_little, number, low_first, place_or_none}
+use Rattle.std.proofs.Common.{◌≡◌, ℕ, zero, suc, ◌^◌, ◌<◌, ◌≤◌, ◌≢◌, Bool, true, false, ◌||◌, Option, Some, None, List, [], ◌∷◌, ◌++◌, length, refl, sym, ◌∙◌, ap, subst, ap₂, add-one, arith, length-append, append_assoc, lt-ltb, ltb, ne_eqb, eqb}
+use Rattle.nif_base.specs.Node.{is_little, number, place_or_none}
 use Rattle.nif_layout.specs.Context.{Context}
 use Rattle.nif_layout.specs.Kind.{Kind, Number, Line, Ref, Text, Group, Unknown}
 use Rattle.nif_layout.specs.Leaf.{IsLeaf, AreInLine, IsBelow}
-use Rattle.nif_layout.specs.Fault.{Fault, RefRange, StringRange, Point, Passes, one_more, most_bytes}
-use Rattle.nif_layout.specs.LeafFault.{leaf_fault, shortage, newline, line_needs, line_fault, low_value, number_at, range_fault, or_else}
+use Rattle.nif_layout.specs.Fault.{Fault, RefRange, StringRange, Point, Passes, one_more}
+use Rattle.nif_layout.specs.LeafFault.{leaf_fault, shortage, newline, line_needs, line_fault, number_at, range_fault, or_else}
 use Rattle.nif_layout.specs.Fails.{LeafFails}
 use Rattle.nif_layout.specs.Laws.{Fits}
-use Rattle.nif_layout.proofs.Bytes.{length_number, value-low, length_low}
-use Rattle.nif_layout.proofs.Cancel.{place_fits}
-use Rattle.nif_layout.proofs.Exclusive.{Excludes, OneFault, counted_one, counted_excludes}
-
-pub shortage_tests : (k : ℕ) (at : Point) → at.place + k ≤ most_bytes → k ≤ length at.left → shortage k at ≡ None
-shortage_tests k at h l =
-    let a : ltb most_bytes (at.place + k) ≡ false = le-ltb most_bytes (at.place + k) h in
-    let b : ltb (length at.left) k ≡ false = le-ltb (length at.left) k l in
-    rw (a, b) refl
-
-pub no_shortage : (s : List ℕ) (n : ℕ) (at next : Point) → Passes s n at next → shortage (length s) at ≡ None
-no_shortage s n at next p =
-    let len : length at.left ≡ length s + length next.left = ap length p.here ∙ length-append s next.left in
-    let pl : next.place ≡ at.place + length s = p.place in
-    let w : next.place ≤ most_bytes = p.within in
-    shortage_tests (length s) at (omega arith) (omega arith)
+use Rattle.nif_layout.specs.ByteLaws.{length_number}
+use Rattle.nif_layout.specs.CancelLaws.{place_fits}
+use Rattle.nif_layout.specs.ExclusiveLaws.{Excludes, OneFault, counted_one, counted_excludes}
+use Rattle.nif_layout.specs.ByteLaws.{number_again}
+use Rattle.nif_layout.specs.RoomLaws.{no_shortage}
 
 -- the place of the first 0x0A after a line
 pub newline_at : (most : ℕ) (line rest : List ℕ) → AreInLine line → length line < most → newline most (line ++ 0x0A ∷ rest) ≡ Some (length line)
@@ -36,23 +23,6 @@ newline_at (suc most) (b ∷ line) rest h l =
     let len : length line < most = omega arith in
     let test : eqb b 0x0A ≡ false = ne_eqb b 0x0A h.1 in
     rw (test, newline_at most line rest h.2 len) refl
-
-pub take_front : (k : ℕ) (s rest : List ℕ) → length s ≡ k → take k (s ++ rest) ≡ s
-take_front k s rest e = let P : ℕ → Type 0 = λ j. take j (s ++ rest) ≡ s in subst P e (take-append_seam s rest)
-
-pub value_again : (little : Bool) (k n : ℕ) → n < 256 ^ k → number_at little k (number little k n) ≡ n
-value_again true k n h =
-    let len : length (low_first k n) ≡ k = length_low k n in
-    let e : take k (low_first k n ++ []) ≡ low_first k n = take_front k (low_first k n) [] len in
-    ap low_value (ap (λ s. take k s) (sym (append-nil (low_first k n))) ∙ e) ∙ value-low k n h
-value_again false k n h =
-    let e : take k (reverse (low_first k n) ++ []) ≡ reverse (low_first k n) = take_front k (reverse (low_first k n)) [] (length_number false k n) in
-    ap low_value (ap reverse (ap (λ s. take k s) (sym (append-nil (reverse (low_first k n)))) ∙ e) ∙ reverse-reverse (low_first k n)) ∙ value-low k n h
-
-pub number_again : (little : Bool) (k n : ℕ) (rest : List ℕ) → n < 256 ^ k → number_at little k (number little k n ++ rest) ≡ n
-number_again true k n rest h = ap low_value (take_front k (low_first k n) rest (length_low k n)) ∙ value-low k n h
-number_again false k n rest h =
-    ap low_value (ap reverse (take_front k (reverse (low_first k n)) rest (length_number false k n)) ∙ reverse-reverse (low_first k n)) ∙ value-low k n h
 
 pub in_range : (most : ℕ) (place : Option ℕ) (fault : Fault) → most < 2 ^ 32 → IsBelow most place → range_fault most (place_or_none place) fault ≡ None
 in_range most None fault h b = refl

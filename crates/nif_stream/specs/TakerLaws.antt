@@ -1,6 +1,7 @@
 -- How calls that take bytes through one taker join.
 use Rattle.std.proofs.Common.{◌≡◌, ◌≢◌, ℕ, ◌+◌, ◌^◌, ◌<◌, ◌≤◌, List, [], ◌++◌, length, Option, Some, None, ap, sym, ◌∙◌, append_assoc, refl, subst, arith, length-append}
 use Rattle.std.specs.Prelude.{IfSome}
+use Rattle.nif_base.specs.Limits.{most_file_bytes}
 use Rattle.nif_base.specs.Outside.{prepended}
 use Rattle.nif_base.specs.Reading.{TakesAtMost}
 use Rattle.nif_stream.specs.declared.takers.Taker.{Taker}
@@ -57,7 +58,7 @@ pub need_short : (place need : ℕ) (bytes : List ℕ) → need_fault place need
 unfolding need_fault
 need_short place need bytes e = grind arith
 
-pub need_long : (place need : ℕ) (bytes : List ℕ) → need_fault place need bytes ≡ Some TooLong → (2 ^ 26 < place + need) × (2 ^ 26 < place + length bytes)
+pub need_long : (place need : ℕ) (bytes : List ℕ) → need_fault place need bytes ≡ Some TooLong → (most_file_bytes < place + need) × (most_file_bytes < place + length bytes)
 unfolding need_fault
 need_long place need bytes e = grind arith
 

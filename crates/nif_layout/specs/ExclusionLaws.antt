@@ -15,9 +15,10 @@ use Rattle.nif_layout.specs.Members.{Check, no_check, fields_text}
 use Rattle.nif_layout.specs.Shape.{IsForm, IsGroup, Shape, FormShape, LineShape}
 use Rattle.nif_layout.specs.Fails.{Counted, ItemsFail, FormFails, GroupFails, Fails, FormShapeFails, LineFails}
 use Rattle.nif_layout.specs.Laws.{Fits}
-use Rattle.nif_layout.proofs.Cancel.{Cancels, same_text, form_cancel, shape_cancel, form_shape_cancel}
-use Rattle.nif_layout.proofs.Exclusive.{Excludes, AllExclude, OneFault, counted_one, counted_excludes, fields_exclude, fields_one, items_exclude, items_one}
-use Rattle.nif_layout.proofs.Leaves.{leaf_excludes, leaf_one, no_shortage, some_inj}
+use Rattle.nif_layout.specs.CancelLaws.{Cancels, same_text, form_cancel, shape_cancel, form_shape_cancel}
+use Rattle.nif_layout.specs.ExclusiveLaws.{Excludes, AllExclude, OneFault, counted_one, counted_excludes, fields_exclude, fields_one, items_exclude, items_one}
+use Rattle.nif_layout.specs.RoomLaws.{no_shortage}
+use Rattle.nif_layout.specs.LeafLaws.{leaf_excludes, leaf_one, some_inj}
 
 pub form_excludes : (order : Order) (V : Kind → Node → Type 0) (F : Kind → Point → Fault → Type 0)
     → ((k : Kind) → Cancels order (V k) (V k)) → ((k : Kind) → Excludes order (V k) (F k))

@@ -10,7 +10,7 @@ use Rattle.nif_cells.specs.Progress.{unpacked}
 use Rattle.nif_cells.specs.declared.contents.Content.{Content}
 use Rattle.nif_cells.specs.declared.contents.Content.TheVariants.{Tail}
 use Rattle.nif_cells.specs.declared.contents.Content.TheVariants as content
-use Rattle.nif_cells.proofs.Packing.{unpacked_whole}
+use Rattle.nif_cells.specs.PackLaws.{unpacked_whole}
 
 pub read_more : (r : Reading) (a b : List Content) → read_on r (a ++ b) ≡ read_on (read_on r a) b
 read_more r [] b = refl

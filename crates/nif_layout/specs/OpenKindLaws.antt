@@ -19,9 +19,9 @@ use Rattle.nif_layout.specs.Kind.{Kind, Unknown, Group, kind_of_leaf, kind_of_wh
 use Rattle.nif_layout.specs.Present.{formula_value}
 use Rattle.nif_layout.specs.Form.{width_at, is_run, replaced, row_of, sized, field_kind, form_of}
 use Rattle.nif_layout.specs.Laws.{IsOpenType, HasTemplate}
-use Rattle.nif_layout.proofs.Decide.{EachField}
-use Rattle.nif_layout.proofs.DecideShapes.{KnownForm, Known}
-use Rattle.nif_layout.proofs.OpenTypes.{each_map, each_both, each_append, each_any, or_left, or_right, open_used, declared, own_facts, FieldGood, TemplateGood, fields_good}
+use Rattle.nif_layout.specs.DecideLaws.{EachField}
+use Rattle.nif_layout.specs.DecideShapeLaws.{KnownForm, Known}
+use Rattle.nif_layout.specs.OpenTypeLaws.{each_map, each_both, each_append, each_any, or_left, or_right, open_used, declared, own_facts, FieldGood, TemplateGood, fields_good}
 
 -- ---- the line of an open type
 

@@ -9,9 +9,9 @@ use Rattle.nif_cells.specs.Small.{HasBytes, HasBytesIn}
 use Rattle.nif_cells.specs.Progress.{head_of, closed_head, held_contents, end_of, building_contents, contents_of, AreHolding, IsOpenInside, HasBytesOpen, in_cells}
 use Rattle.nif_cells.specs.declared.contents.Content.{Content}
 use Rattle.nif_cells.specs.declared.contents.Content.TheVariants as content
-use Rattle.nif_cells.proofs.Known.{read_more, read_words, read_group, read_row, joined_whole}
-use Rattle.nif_cells.proofs.Packing.{unpacked_whole}
-use Rattle.nif_cells.proofs.Places.{places-more}
+use Rattle.nif_cells.specs.ReadLaws.{read_more, read_words, read_group, read_row, joined_whole}
+use Rattle.nif_cells.specs.PackLaws.{unpacked_whole}
+use Rattle.nif_cells.specs.PlaceLaws.{places-more}
 
 pub contents-behind : (first : Members) (n : Node) → contents_in (behind first n) ≡ contents_in first ++ contents n
 contents-behind End n = append-nil (contents n)

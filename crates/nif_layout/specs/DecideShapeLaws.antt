@@ -10,14 +10,17 @@ use Rattle.nif_layout.specs.Earlier.{Env}
 use Rattle.nif_layout.specs.Present.{present}
 use Rattle.nif_layout.specs.Kind.{Kind, Number, Line, Ref, Text, Group, Unknown}
 use Rattle.nif_layout.specs.Form.{Form, One, Run, Row, form_of}
-use Rattle.nif_layout.specs.Fault.{Fault, TooDeep, Point, Passes, most_nodes}
+use Rattle.nif_base.specs.Limits.{most_nodes}
+use Rattle.nif_layout.specs.Fault.{Fault, TooDeep, Point, Passes}
 use Rattle.nif_layout.specs.LeafFault.{shortage}
 use Rattle.nif_layout.specs.Members.{Check, no_check, Fields, Items, fields_text}
 use Rattle.nif_layout.specs.Shape.{IsForm, IsGroup, Shape, FormShape, LineShape}
 use Rattle.nif_layout.specs.Fails.{ItemsFail, FormFails, GroupFails, Fails, FormShapeFails, LineFails}
-use Rattle.nif_layout.proofs.Cancel.{same_text}
-use Rattle.nif_layout.proofs.Decide.{Within, Decides, AllDecided, AllDecide, EachField, fields_decide, items_decide}
-use Rattle.nif_layout.proofs.DecideLeaves.{Inside, Enough, enough, counted_decides, skip, passes_skip, bytes_take, leaf_decides_number, leaf_decides_line, leaf_decides_ref, leaf_decides_text}
+use Rattle.nif_layout.specs.CancelLaws.{same_text}
+use Rattle.nif_layout.specs.DecideLaws.{Within, Decides, AllDecided, AllDecide, EachField, fields_decide, items_decide}
+use Rattle.nif_layout.specs.ByteLaws.{bytes_take}
+use Rattle.nif_layout.specs.RoomLaws.{Enough, enough, skip, passes_skip}
+use Rattle.nif_layout.specs.DecideLeafLaws.{Inside, counted_decides, leaf_decides_number, leaf_decides_line, leaf_decides_ref, leaf_decides_text}
 
 -- Each value of a form is of a kind that is known, however far down.
 abbrev pub KnownForm : (Kind → Type 0) → Form → Type 0

@@ -9,17 +9,18 @@ use Rattle.nif_layout.specs.Earlier.{Env}
 use Rattle.nif_layout.specs.Kind.{kind_of}
 use Rattle.nif_layout.specs.Form.{Form, form_of}
 use Rattle.nif_layout.specs.Leaf.{AreBytes}
-use Rattle.nif_layout.specs.Fault.{Fault, Point, Passes, most_bytes, most_nodes}
+use Rattle.nif_base.specs.Limits.{most_file_bytes, most_nodes}
+use Rattle.nif_layout.specs.Fault.{Fault, Point, Passes}
 use Rattle.nif_layout.specs.Members.{Check}
 use Rattle.nif_layout.specs.Shape.{Shape, FormShape, LineShape}
 use Rattle.nif_layout.specs.Fails.{Fails, FormShapeFails, LineFails}
 use Rattle.nif_layout.specs.Laws.{Fits, AllFit, IsOpenType, HasTemplate, OneNode, NoProperPrefix, OneForm, OneLine, line_text, ExactlyOne, at_place, IsPlace, Stands, NodeStands, SpelledOrFails, FormSpelledOrFails, LineSpelledOrFails}
-use Rattle.nif_layout.proofs.Cancel.{shape_cancel, form_shape_cancel, line_cancel}
-use Rattle.nif_layout.proofs.Exclusive.{Excludes, AllExclude, OneFault}
-use Rattle.nif_layout.proofs.Exclusion.{shape_excludes, shape_one, form_shape_excludes, form_shape_one, line_excludes, line_one}
-use Rattle.nif_layout.proofs.Decide.{Within, Decides, Decided, AllDecide, AllDecided}
-use Rattle.nif_layout.proofs.DecideShapes.{KnownForm, Known, shape_decides, form_shape_decides, line_decides}
-use Rattle.nif_layout.proofs.OpenKnown.{open_known, open_line_known, each_contained}
+use Rattle.nif_layout.specs.CancelLaws.{shape_cancel, form_shape_cancel, line_cancel}
+use Rattle.nif_layout.specs.ExclusiveLaws.{Excludes, AllExclude, OneFault}
+use Rattle.nif_layout.specs.ExclusionLaws.{shape_excludes, shape_one, form_shape_excludes, form_shape_one, line_excludes, line_one}
+use Rattle.nif_layout.specs.DecideLaws.{Within, Decides, Decided, AllDecide, AllDecided}
+use Rattle.nif_layout.specs.DecideShapeLaws.{KnownForm, Known, shape_decides, form_shape_decides, line_decides}
+use Rattle.nif_layout.specs.OpenKindLaws.{open_known, open_line_known, each_contained}
 
 pub one_node : (S : Schema) (C : Context) (number : ℕ) (template : Option ℕ) (arg : ℕ) → Fits C → OneNode S C number template arg
 one_node S C number template arg fits c d a b bytes ha hb =
@@ -57,7 +58,7 @@ passed_stands : (bytes : List ℕ) (p n : ℕ) (front : List ℕ) (count : ℕ) 
 passed_stands bytes p n front count next h =
     let place : next.place ≡ p + length front = h.place in
     let number : next.nodes ≡ n + count = h.nodes in
-    let w : next.place ≤ most_bytes = h.within in
+    let w : next.place ≤ most_file_bytes = h.within in
     let c : next.nodes ≤ most_nodes = h.counted in
     record { rest = next.left; here = h.here; within = omega arith; counted = omega arith }
 

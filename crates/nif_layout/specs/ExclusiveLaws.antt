@@ -4,11 +4,12 @@ use Rattle.nif_base.specs.declared.orders.Order.{Order}
 use Rattle.nif_base.specs.Node.{Node, Members, text, texts, nodes, nodes_in}
 use Rattle.nif_schema.specs.Declaration.{Field}
 use Rattle.nif_layout.specs.Earlier.{Env, behind}
-use Rattle.nif_layout.specs.Fault.{Fault, Point, Passes, Reads, one_more, most_nodes}
+use Rattle.nif_base.specs.Limits.{most_nodes}
+use Rattle.nif_layout.specs.Fault.{Fault, Point, Passes, Reads, one_more}
 use Rattle.nif_layout.specs.Members.{Member, Check, Fields, Items, member_text, fields_text}
 use Rattle.nif_layout.specs.Fails.{Counted, MemberFails, FieldsFail, ItemsFail}
-use Rattle.nif_layout.proofs.Cancel.{in_one_order, Cancels}
-use Rattle.nif_layout.proofs.Passing.{split, count_in, one_point}
+use Rattle.nif_layout.specs.CancelLaws.{in_one_order, Cancels}
+use Rattle.nif_layout.specs.PassLaws.{split, count_in, one_point}
 
 -- What is read doesn't fail.
 abbrev pub Excludes : Order → (Node → Type 0) → (Point → Fault → Type 0) → Type 0

@@ -15,7 +15,7 @@ use Rattle.nif_layout.specs.Fault.{Fault}
 use Rattle.nif_layout.specs.Members.{Member, Check, no_check, Fields, Items, member_text, fields_text}
 use Rattle.nif_layout.specs.Shape.{IsForm, Shape, FormShape, LineShape}
 use Rattle.nif_layout.specs.Laws.{Fits}
-use Rattle.nif_layout.proofs.Bytes.{same_front, number_front, line_front}
+use Rattle.nif_layout.specs.ByteLaws.{same_front, number_front, line_front}
 
 -- A node of the one kind and a node of the other that begin the same bytes are one.
 abbrev pub Cancels : Order → (Node → Type 0) → (Node → Type 0) → Type 0

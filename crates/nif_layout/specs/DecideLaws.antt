@@ -5,22 +5,19 @@ use Rattle.nif_base.specs.Node.{Node, Members, End, Here, Absent, text, texts, n
 use Rattle.nif_schema.specs.Declaration.{Field}
 use Rattle.nif_layout.specs.Earlier.{Env, behind}
 use Rattle.nif_layout.specs.Leaf.{AreBytes}
-use Rattle.nif_layout.specs.Fault.{Fault, TooManyNodes, Point, Passes, Reads, one_more, most_bytes, most_nodes}
+use Rattle.nif_base.specs.Limits.{most_file_bytes, most_nodes}
+use Rattle.nif_layout.specs.Fault.{Fault, TooManyNodes, Point, Passes, Reads, one_more}
 use Rattle.nif_layout.specs.Members.{Member, Check, Fields, Items, member_text, fields_text}
 use Rattle.nif_layout.specs.Fails.{MemberFails, FieldsFail, ItemsFail}
-use Rattle.nif_layout.proofs.Cancel.{in_one_order}
-use Rattle.nif_layout.proofs.Passing.{join, count_out}
-use Rattle.nif_layout.proofs.Exclusive.{RefusedOr}
+use Rattle.nif_layout.specs.CancelLaws.{in_one_order}
+use Rattle.nif_layout.specs.PassLaws.{join, count_out}
+use Rattle.nif_layout.specs.ExclusiveLaws.{RefusedOr}
+use Rattle.nif_layout.specs.ByteLaws.{bytes_behind}
 
 -- A point within a file, whose nodes may be too many.
 pub record Within (at : Point) : Type 0 where
-  pub place : at.place ≤ most_bytes
+  pub place : at.place ≤ most_file_bytes
   pub bytes : AreBytes at.left
-
--- what follows bytes are bytes
-pub bytes_behind : (s t : List ℕ) → AreBytes (s ++ t) → AreBytes t
-bytes_behind [] t h = h
-bytes_behind (b ∷ s) t h = bytes_behind s t h.1
 
 pub behind_bytes : (s : List ℕ) (n : ℕ) (at next : Point) → Within at → Passes s n at next → Within next
 behind_bytes s n at next w p =

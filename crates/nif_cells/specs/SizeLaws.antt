@@ -10,8 +10,8 @@ use Rattle.nif_cells.specs.Sizes.{own_cells, own_cells_in}
 use Rattle.nif_cells.specs.Progress.{building_contents, head_of, held_contents}
 use Rattle.nif_cells.specs.declared.contents.Content.TheVariants.{Word}
 use Rattle.nif_cells.specs.declared.contents.Content.TheVariants as content
-use Rattle.nif_cells.proofs.Packing.{byte_cells-length, packed_words}
-use Rattle.nif_cells.proofs.Places.{places-more, tree-length, places-none, places-views, views-words, views-members}
+use Rattle.nif_cells.specs.PackLaws.{byte_cells-length, packed_words}
+use Rattle.nif_cells.specs.PlaceLaws.{places-more, tree-length, places-none, places-views, views-words, views-members}
 
 mutual
   node-cells : (n : Node) → length (contents n) + length (refs n) ≡ own_cells n

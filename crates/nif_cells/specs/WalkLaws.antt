@@ -10,7 +10,7 @@ use Rattle.nif_cells.specs.Progress.{IsHeaded, IsFollowed}
 use Rattle.nif_cells.specs.declared.contents.Content.{Content}
 use Rattle.nif_cells.specs.declared.contents.Content.TheVariants.{Tail}
 use Rattle.nif_cells.specs.declared.contents.Content.TheVariants as content
-use Rattle.nif_cells.proofs.Packing.{bytes_at-cells, byte_cells-length}
+use Rattle.nif_cells.specs.PackLaws.{bytes_at-cells, byte_cells-length}
 
 pub met-words : (ws : List ℕ) (rest : List Content) → met_in (words ws ++ rest) ≡ met_in rest
 met-words [] rest = refl

@@ -9,7 +9,7 @@ use Rattle.nif_schema.specs.Declaration.{Field}
 use Rattle.nif_schema.specs.Schema.{Schema}
 use Rattle.nif_layout.specs.Earlier.{Env, behind}
 use Rattle.nif_layout.specs.Members.{Member, Check, Fields, fields_text}
-use Rattle.nif_layout.proofs.Bytes.{length_number}
+use Rattle.nif_layout.specs.ByteLaws.{length_number}
 use Rattle.nif_file.specs.Sizes.{size, size_in}
 use Rattle.nif_file.specs.Head.{order_in, version_in, index_word, header_context}
 use Rattle.nif_file.specs.Files.{header_line, header_text, members_of, head_in, name_of, name_where, has_zero_word, zero_where, zero_word, block_text, blocks_text, block_size, blocks_size, text_of, IsHeader}

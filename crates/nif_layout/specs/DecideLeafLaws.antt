@@ -1,19 +1,21 @@
 -- A leaf is read or fails.
-use Rattle.std.proofs.Common.{◌≡◌, ℕ, zero, suc, ◌+◌, ◌*◌, ◌/◌, ◌%◌, ◌^◌, ◌<◌, ◌≤◌, ◌⊎◌, inl, inr, Bool, true, false, ◌||◌, if◌then◌else◌, Option, Some, None, List, [], ◌∷◌, ◌++◌, length, take, drop, reverse, refl, sym, ◌∙◌, ap, subst, arith, take-append-drop, length-take-le, ltb-true, ltb-false, ltb, eqb, eqb-true, lit<}
+use Rattle.std.proofs.Common.{◌≡◌, ℕ, zero, suc, ◌+◌, ◌^◌, ◌<◌, ◌≤◌, ◌⊎◌, inl, inr, Bool, true, false, ◌||◌, if◌then◌else◌, Option, Some, None, List, [], ◌∷◌, ◌++◌, length, take, refl, sym, ◌∙◌, ap, subst, arith, ltb-true, ltb, eqb, eqb-true}
 use Rattle.std.specs.Option.{option_map}
 use Rattle.std.proofs.lemmas.Bool.{eqb-false}
-use Rattle.std.proofs.lemmas.List.{reverse-reverse, reverse-append, length-reverse}
 use Rattle.nif_base.specs.declared.orders.Order.{Order}
 use Rattle.nif_base.specs.Node as node
 use Rattle.nif_base.specs.Node.{Node, Members, text, texts, nodes, nodes_in, is_little, number, low_first, place_or_none}
 use Rattle.nif_layout.specs.Context.{Context}
 use Rattle.nif_layout.specs.Kind.{Number, Line, Ref, Text}
 use Rattle.nif_layout.specs.Leaf.{IsLeaf, AreBytes, AreInLine, IsBelow}
-use Rattle.nif_layout.specs.Fault.{Fault, Ended, TooLong, LineTooLong, RefRange, StringRange, TooManyNodes, Point, Passes, one_more, most_bytes, most_nodes}
-use Rattle.nif_layout.specs.LeafFault.{shortage, leaf_fault, newline, line_needs, line_fault, low_value, number_at, range_fault, or_else}
+use Rattle.nif_base.specs.Limits.{most_nodes}
+use Rattle.nif_layout.specs.Fault.{Fault, LineTooLong, RefRange, StringRange, TooManyNodes, Point, Passes, one_more}
+use Rattle.nif_layout.specs.LeafFault.{shortage, leaf_fault, newline, line_needs, line_fault, number_at, range_fault, or_else}
 use Rattle.nif_layout.specs.Fails.{Counted, LeafFails}
-use Rattle.nif_layout.proofs.Passing.{count_out}
-use Rattle.nif_layout.proofs.Decide.{Within, Decides, Decided, counting, room}
+use Rattle.nif_layout.specs.PassLaws.{count_out}
+use Rattle.nif_layout.specs.DecideLaws.{Within, Decides, Decided, counting, room}
+use Rattle.nif_layout.specs.ByteLaws.{number_taken}
+use Rattle.nif_layout.specs.RoomLaws.{Enough, enough, passes_skip, skip}
 
 -- What is read behind the count of a node, or fails there.
 abbrev pub Inside : Order → (Node → Type 0) → (Point → Fault → Type 0) → Point → Type 0
@@ -37,85 +39,6 @@ counted_from order V F inner at w (inr n) = inr (TooManyNodes at.place, inl (n, 
 pub counted_decides : (order : Order) (V : Node → Type 0) (F : Point → Fault → Type 0)
     → ((at : Point) → Within at → at.nodes ≤ most_nodes → Inside order V F at) → Decides order V (Counted (λ f. f) F)
 counted_decides order V F inner at w = counted_from order V F inner at w (room at)
-
--- A shortage, or enough bytes.
-abbrev pub Enough : ℕ → Point → Type 0
-Enough k at = ((f : Fault) × (shortage k at ≡ Some f)) ⊎ ((shortage k at ≡ None) × (k ≤ length at.left) × (at.place + k ≤ most_bytes))
-
-enough_by : (k : ℕ) (at : Point) (a b c : Bool) → ltb most_bytes (at.place + k) ≡ a → ltb most_bytes (at.place + length at.left) ≡ b
-    → ltb (length at.left) k ≡ c → Enough k at
-enough_by k at true true c ea eb ec = inl (TooLong, rw (ea, eb) refl)
-enough_by k at true false true ea eb ec = inl (Ended at.place, rw (ea, eb, ec) refl)
-enough_by k at true false false ea eb ec =
-    let x = ltb-true most_bytes (at.place + k) ea in
-    let y = ltb-false most_bytes (at.place + length at.left) eb in
-    let z = ltb-false (length at.left) k ec in absurd (omega arith)
-enough_by k at false b true ea eb ec = inl (Ended at.place, rw (ea, ec) refl)
-enough_by k at false b false ea eb ec =
-    inr (rw (ea, ec) refl, ltb-false (length at.left) k ec, ltb-false most_bytes (at.place + k) ea)
-
-pub enough : (k : ℕ) (at : Point) → Enough k at
-enough k at = enough_by k at (ltb most_bytes (at.place + k)) (ltb most_bytes (at.place + length at.left)) (ltb (length at.left) k) refl refl refl
-
--- the point behind k bytes
-abbrev pub skip : ℕ → Point → Point
-skip k at = record { nodes = at.nodes; place = at.place + k; left = drop k at.left }
-
-pub passes_skip : (k : ℕ) (at : Point) (s : List ℕ) → s ≡ take k at.left → k ≤ length at.left → at.place + k ≤ most_bytes → at.nodes ≤ most_nodes
-    → Passes s 0 at (skip k at)
-passes_skip k at s e l w n =
-    let len : length (take k at.left) ≡ k = length-take-le k at.left l in
-    let len' : length s ≡ k = ap length e ∙ len in
-    record {
-      here = sym (take-append-drop k at.left) ∙ ap (λ x. x ++ drop k at.left) (sym e);
-      place = ap (λ x. at.place + x) (sym len');
-      nodes = omega arith;
-      within = w;
-      counted = n;
-    }
-
-pub bytes_append : (s t : List ℕ) → AreBytes s → AreBytes t → AreBytes (s ++ t)
-bytes_append [] t hs ht = ht
-bytes_append (b ∷ s) t hs ht = (hs.0, bytes_append s t hs.1 ht)
-
-pub bytes_reverse : (s : List ℕ) → AreBytes s → AreBytes (reverse s)
-bytes_reverse [] h = tt
-bytes_reverse (b ∷ s) h =
-    subst AreBytes (sym (reverse-append (b ∷ []) s)) (bytes_append (reverse s) (reverse (b ∷ [])) (bytes_reverse s h.1) (h.0, tt))
-
-pub bytes_take : (k : ℕ) (s : List ℕ) → AreBytes s → AreBytes (take k s)
-bytes_take zero s h = tt
-bytes_take (suc k) [] h = tt
-bytes_take (suc k) (b ∷ s) h = (h.0, bytes_take k s h.1)
-
--- bytes are the spelling of their value
-pub low-value : (s : List ℕ) → AreBytes s → low_first (length s) (low_value s) ≡ s
-low-value [] h = refl
-low-value (b ∷ s) h =
-    let small : b < 256 = h.0 in
-    let m : (b + 256 * low_value s) % 256 ≡ b = omega arith in
-    let d : (b + 256 * low_value s) / 256 ≡ low_value s = omega arith in
-    rw (m, d, low-value s h.1) refl
-
-bound_step : (b v n : ℕ) → b < 256 → v < 256 ^ n → b + 256 * v < 256 ^ suc n
-bound_step b v n h i = omega arith
-
-pub low_bound : (s : List ℕ) → AreBytes s → low_value s < 256 ^ length s
-low_bound [] h = lit< tt
-low_bound (b ∷ s) h = bound_step b (low_value s) (length s) h.0 (low_bound s h.1)
-
-pub number_taken : (little : Bool) (k : ℕ) (s : List ℕ) → AreBytes s → k ≤ length s
-    → (number little k (number_at little k s) ≡ take k s) × (number_at little k s < 256 ^ k)
-number_taken true k s h l =
-    let len : length (take k s) ≡ k = length-take-le k s l in
-    let P : ℕ → Type 0 = λ j. (low_first j (low_value (take k s)) ≡ take k s) × (low_value (take k s) < 256 ^ j) in
-    subst P len (low-value (take k s) (bytes_take k s h), low_bound (take k s) (bytes_take k s h))
-number_taken false k s h l =
-    let r = reverse (take k s) in
-    let hr : AreBytes r = bytes_reverse (take k s) (bytes_take k s h) in
-    let len : length r ≡ k = length-reverse (take k s) ∙ length-take-le k s l in
-    let P : ℕ → Type 0 = λ j. (reverse (low_first j (low_value r)) ≡ take k s) × (low_value r < 256 ^ j) in
-    subst P len (ap reverse (low-value r hr) ∙ reverse-reverse (take k s), low_bound r hr)
 
 -- the place or none that a number in range stands for
 pub place_of : (most v : ℕ) (fault : Fault) → v < 2 ^ 32 → ((place : Option ℕ) × IsBelow most place × (place_or_none place ≡ v)) ⊎ (range_fault most v fault ≡ Some fault)

@@ -12,7 +12,7 @@ use Rattle.nif_schema.specs.Reasons.{first_reason, reason_where, is_unread, has_
 use Rattle.nif_schema.specs.declared.faults.Closed.{Closed}
 use Rattle.nif_schema.specs.declared.faults.Closed.TheVariants as closed
 use Rattle.nif_layout.specs.Laws.{IsOpenType}
-use Rattle.nif_layout.proofs.Decide.{EachField}
+use Rattle.nif_layout.specs.DecideLaws.{EachField}
 
 -- ---- lists of fields
 

@@ -13,7 +13,7 @@ use Rattle.nif_cells.specs.declared.contents.Content.{Content}
 use Rattle.nif_cells.specs.declared.contents.Content.TheVariants.{Place}
 use Rattle.nif_cells.specs.declared.contents.Content.TheVariants as content
 use Rattle.nif_cells.specs.declared.steps.RefView.{RefView}
-use Rattle.nif_cells.proofs.Places.{views, views-node, views-members, places-more, places-count, there, place-is, get-before, get-behind}
+use Rattle.nif_cells.specs.PlaceLaws.{views, views-node, views-members, places-more, places-count, there, place-is, get-before, get-behind}
 
 -- cells, the k-th reference of which has another target
 abbrev aimed_at : Option ℕ → List Content → ℕ → List Content
