@@ -8,7 +8,7 @@ use Rattle.std.specs.declared.alloc.Global.{Global}
 use Rattle.nif_schema.specs.Declaration.{Name, Field, declaration}
 use Rattle.nif_schema.specs.Schema.{Schema, IsSchema, find, fields_of, ancestor}
 use Rattle.nif_schema.specs.declared.decls.Decl.{Decl}
-use Rattle.nif_schema.specs.declared.lines.Mark.{Mark}
+use Rattle.nif_schema.specs.declared.lines.Waypoint.{Waypoint}
 
 -- the declarations that are kept
 abbrev pub declarations : List Decl → Schema
@@ -28,12 +28,13 @@ below schema own (suc steps) = option_map_or (fields_of schema) (ancestor schema
 abbrev pub left_of : Schema → ℕ → ℕ → ℕ → ℕ → List Field
 left_of schema own above number place = drop place (fields_of schema number) ++ below schema own above
 
--- each mark is a declaration on the walk
-abbrev pub AreMarks : Schema → ℕ → List Mark → Type 0
-AreMarks schema own marks = All (λ mark. ancestor schema mark.above own ≡ Some mark.number) marks
+-- each waypoint is a declaration on the walk
+abbrev pub AreWaypoints : Schema → ℕ → List Waypoint → Type 0
+AreWaypoints schema own waypoints =
+    All (λ waypoint. ancestor schema waypoint.above own ≡ Some waypoint.number) waypoints
 
 -- an iterator is at a declaration on the walk
-pub record IsOnWalk (schema : Schema) (own above number : ℕ) (marks : List Mark) : Type 0 where
+pub record IsOnWalk (schema : Schema) (own above number : ℕ) (waypoints : List Waypoint) : Type 0 where
   pub own_within : own < length schema
   pub at : ancestor schema above own ≡ Some number
-  pub marked : AreMarks schema own marks
+  pub remembered : AreWaypoints schema own waypoints

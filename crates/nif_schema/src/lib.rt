@@ -1,7 +1,7 @@
 //! Schemas as values: declarations of types with their fields, found by name and by number, and the lines of
 //! fields of types that inherit. Stands on `nif_base`. It promises that `add`, `find`, `line_of`, `is_a` and `ends`
 //! are exact over the list of declarations, and that all but `add` take no memory. A name is found in logarithmic
-//! time, whatever the names; a line is walked root first in near-linear time, with 32 marks kept in the iterator.
+//! time, whatever the names; a line is walked root first in near-linear time, with 32 waypoints kept in the iterator.
 #![tactic(auto)]
 
 pub mod contexts;

@@ -3,19 +3,19 @@ ghost use Rattle.std.specs.Prelude.{◌≡◌, ℕ, ◌≤◌, ◌<◌, length, 
 ghost use Rattle.std.specs.Iterator.{YieldsFirstBy, item_count};
 ghost use Rattle.nif_schema.specs.Declaration.{field};
 ghost use Rattle.nif_schema.specs.Schema.{ancestor, line, Ends};
-ghost use Rattle.nif_schema.specs.Kept.{AreMarks};
+ghost use Rattle.nif_schema.specs.Kept.{AreWaypoints};
 
 use crate::fields::Field;
 use crate::schemas::Schema;
 use arrayvec::ArrayVec;
 use std::marker::Model;
 
-/// How many marks are kept; each halves what is left of a walk, so that there is always room.
-const MARKS: usize = 32;
+/// How many waypoints are kept; each halves what is left of a walk, so that there is always room.
+const WAYPOINTS: usize = 32;
 
 /// A declaration on a walk of parents, and how many steps it is above the one where the walk begins.
 #[derive(Clone, Copy, Default)]
-struct Mark {
+struct Waypoint {
     above: u32,
     number: u32,
 }
@@ -28,7 +28,7 @@ pub struct Line<'a> {
     above: u32,
     number: u32,
     place: u32,
-    marks: ArrayVec<Mark, MARKS>,
+    waypoints: ArrayVec<Waypoint, WAYPOINTS>,
 }
 
 impl<'a> Model for Line<'a> {
@@ -45,7 +45,7 @@ impl<'a> Model for Line<'a> {
 
     ghost view = { λ l. left_of l.schema.now l.own l.above l.number l.place };
 
-    ghost invariant = { λ l. IsOnWalk l.schema.now l.own l.above l.number l.marks.items };
+    ghost invariant = { λ l. IsOnWalk l.schema.now l.own l.above l.number l.waypoints.items };
 }
 
 impl<'a> Line<'a> {
@@ -64,7 +64,7 @@ impl<'a> Line<'a> {
                     above,
                     number,
                     place: 0,
-                    marks: ArrayVec::new(),
+                    waypoints: ArrayVec::new(),
                 };
             };
             number = parent;
@@ -93,50 +93,55 @@ impl<'a> Iterator for Line<'a> {
                 return None;
             }
             self.above -= 1;
-            self.number = climb(schema, self.own, self.above, &mut self.marks);
+            self.number = climb(schema, self.own, self.above, &mut self.waypoints);
             self.place = 0;
         }
     }
 }
 
-/// The declaration that is `target` steps above `own`. It goes up from the nearest mark, and leaves marks at half
-/// of what is left of the way, at half of what is left then, and so on.
-fn climb(schema: &Schema, own: u32, target: u32, marks: &mut ArrayVec<Mark, MARKS>) -> u32
+/// The declaration that is `target` steps above `own`. It goes up from the nearest waypoint, and leaves waypoints at
+/// half of what is left of the way, at half of what is left then, and so on.
+fn climb(
+    schema: &Schema,
+    own: u32,
+    target: u32,
+    waypoints: &mut ArrayVec<Waypoint, WAYPOINTS>,
+) -> u32
     requires within { own < length schema.now }
     requires reaches { IsSome (ancestor schema.now target own) }
-    requires marked { AreMarks schema.now own marks.old.items }
+    requires remembered { AreWaypoints schema.now own waypoints.old.items }
     ensures value { ancestor schema.now target own ≡ Some result }
-    ensures marked { AreMarks schema.now own marks.new.items }
+    ensures remembered { AreWaypoints schema.now own waypoints.new.items }
 {
-    let mut at = nearest(marks, target).unwrap_or(Mark {
+    let mut at = nearest(waypoints, target).unwrap_or(Waypoint {
         above: 0,
         number: own,
     });
     while at.above < target {
         let far = target - at.above;
         let steps = far - far / 2;
-        at = Mark {
+        at = Waypoint {
             above: at.above + steps,
             number: go_up(schema, at.number, steps),
         };
-        if !marks.is_full() {
-            marks.push(at);
+        if !waypoints.is_full() {
+            waypoints.push(at);
         }
     }
     at.number
 }
 
-/// The last mark that is at most `target` steps up; those behind it are dropped.
-fn nearest(marks: &mut ArrayVec<Mark, MARKS>, target: u32) -> Option<Mark>
-    ensures below { IfSome result (λ mark. mark.above ≤ target) }
-    ensures known { IfSome result (Contains marks.old.items) }
-    ensures kept { (n : ℕ) × (marks.new.items ≡ take n marks.old.items) }
+/// The last waypoint that is at most `target` steps up; those behind it are dropped.
+fn nearest(waypoints: &mut ArrayVec<Waypoint, WAYPOINTS>, target: u32) -> Option<Waypoint>
+    ensures below { IfSome result (λ waypoint. waypoint.above ≤ target) }
+    ensures known { IfSome result (Contains waypoints.old.items) }
+    ensures kept { (n : ℕ) × (waypoints.new.items ≡ take n waypoints.old.items) }
 {
-    while let Some(mark) = marks.as_slice().last() {
-        if mark.above <= target {
-            return Some(*mark);
+    while let Some(waypoint) = waypoints.as_slice().last() {
+        if waypoint.above <= target {
+            return Some(*waypoint);
         }
-        marks.pop();
+        waypoints.pop();
     }
     None
 }

@@ -22,7 +22,7 @@ loop-self-preserved c =
     let l = c.loop-self.self-inside in
     let on = c.loop-self.invariant.1 in (
       c.loop-self.invariant.0,
-      record { own_within = on.own_within; at = c.climb-self-inside.ensures.value; marked = c.climb-self-inside.ensures.marked },
+      record { own_within = on.own_within; at = c.climb-self-inside.ensures.value; remembered = c.climb-self-inside.ensures.remembered },
       left_of-down c.self.inside.schema.now l.own l.above l.number l.place c.climb-self-inside.result c.decl.result.now c.decl.ensures (omega (arith, c.len.ensures))
           c.if-self-eq0.false c.climb-self-inside.ensures.value
           ∙ c.loop-self.invariant.2,
