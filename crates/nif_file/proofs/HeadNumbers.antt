@@ -1,33 +1,28 @@
 -- The numbers of blocks and of strings that a header says have 32 bits.
-use Rattle.std.proofs.Common.{◌≡◌, ℕ, zero, suc, ◌^◌, ◌<◌, ◌⊎◌, inl, inr, Bool, true, false, ◌&&◌, if◌then◌else◌, Option, Some, None, option_and_then, option_map, List, [], ◌∷◌, ◌++◌, length, get_or, slice_get, refl, sym, ◌∙◌, ap, subst, arith, lit<, true≢false}
-use Rattle.std.specs.Prelude.{codes, bytes_eq, filter, MatchOption, not, is_some, is_none}
+use Rattle.std.proofs.Common.{◌≡◌, ℕ, ◌^◌, ◌<◌, inl, inr, Bool, true, false, ◌&&◌, if◌then◌else◌, Option, Some, None, option_and_then, option_map, List, [], ◌∷◌, refl, sym, ◌∙◌, ap, subst, arith, lit<, true≢false}
+use Rattle.std.specs.Prelude.{codes, not, is_some, is_none}
 use Rattle.std.specs.Option.{option_map_or}
-use Rattle.std.proofs.lemmas.Option.{slice_get_within, get_or_from_slice_get}
-use Rattle.std.proofs.lemmas.Slice.Eq.{bytes_eq-Decides}
 use Rattle.nif_base.specs.Node.{Node, Members}
-use Rattle.nif_schema.specs.Declaration.{Name, Field, Declaration, inherited}
-use Rattle.nif_schema.specs.Schema.{Schema, IsSchema, find, find_block, parent, fields_of, line, line_within}
-use Rattle.nif_schema.specs.Basic.{listed_leaf, HasItsLeaf, IsLeafOf, IsOtherLeaf}
-use Rattle.nif_schema.specs.Uses.{what_at, is_own_template}
-use Rattle.nif_schema.specs.Roles.{Roles, IsRoot, header_fields, of_name, is_named, is_one, is_at_most_one, is_always, is_plain, is_single, is_array, is_after_version, declares, is_basic, is_of_basic, has_count, has_lists, has_type_lists, has_block_lists, has_string_lists, is_once, are_strings, begins_by_lowest, lasts_to_highest}
+use Rattle.nif_schema.specs.Declaration.{Name, Field}
+use Rattle.nif_schema.specs.Schema.{Schema, IsSchema, find}
+use Rattle.nif_schema.specs.Basic.{listed_leaf}
+use Rattle.nif_schema.specs.Uses.{is_own_template}
+use Rattle.nif_schema.specs.Roles.{Roles, header_fields, of_name, is_named, is_one, is_at_most_one, is_always, is_plain, is_single, is_array, is_after_version, is_of_basic, has_count, has_lists, has_type_lists, has_block_lists, has_string_lists, is_once, are_strings, begins_by_lowest, lasts_to_highest}
 use Rattle.nif_schema.specs.declared.decls.Leaf.{Leaf}
 use Rattle.nif_schema.specs.declared.decls.Leaf.TheVariants as leaf
-use Rattle.nif_schema.specs.declared.decls.What.{What}
-use Rattle.nif_schema.specs.declared.decls.What.TheVariants.{Basic, Stored, Struct, Block}
+use Rattle.nif_schema.specs.declared.decls.What.TheVariants.{Basic}
 use Rattle.nif_layout.specs.Context.{Context}
-use Rattle.nif_layout.specs.Earlier.{Env, behind, last_present, passed}
+use Rattle.nif_layout.specs.Earlier.{Env, last_present}
 use Rattle.nif_layout.specs.Kind.{Kind, Number, Unknown, kind_of, kind_of_leaf}
 use Rattle.nif_layout.specs.Form.{Form, One, form_of, field_kind, replaced}
 use Rattle.nif_layout.specs.Leaf.{IsLeaf}
 use Rattle.nif_layout.specs.PathValue.{number_in}
-use Rattle.nif_layout.specs.Members.{Member, Check, Fields}
 use Rattle.nif_layout.specs.Shape.{Shape, FormShape}
 use Rattle.nif_layout.specs.Laws.{Fits}
 use Rattle.nif_file.specs.Head.{number_of, header_context, file_context}
 use Rattle.nif_file.specs.Checks.{header_check}
 use Rattle.nif_file.specs.Files.{header_line, head_of, IsHeaderLine}
-use Rattle.nif_file.specs.NameLaws.{found_name}
-use Rattle.nif_file.specs.RoleLaws.{Among, Held, basic_by, filtered, found_declared, header_is, header_line_is, held, held_further, left, no_parent, of_basic, once, own_kind, own_leaf, passes_once, right, root_within, struct_line}
+use Rattle.nif_file.specs.RoleLaws.{Among, Held, basic_by, found_declared, header_line_is, held, left, of_basic, own_kind, own_leaf, passes_once, right}
 
 -- ---- the last present member of a name is a member that was read
 

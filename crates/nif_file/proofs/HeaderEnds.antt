@@ -7,33 +7,31 @@ use Rattle.nif_base.specs.Outside.{prepended, Rose}
 use Rattle.nif_schema.specs.Declaration.{Field}
 use Rattle.nif_schema.specs.Schema.{Schema}
 use Rattle.nif_layout.specs.Earlier.{Env, behind}
-use Rattle.nif_layout.specs.Fault as plain
 use Rattle.nif_base.specs.Limits.{most_file_bytes, most_nodes}
-use Rattle.nif_layout.specs.Fault.{Fault, Point, Passes, one_more}
+use Rattle.nif_layout.specs.Fault.{Fault, Point, Passes}
 use Rattle.nif_layout.specs.Fails.{LineFails}
 use Rattle.nif_stream.specs.declared.takers.Taker.{Taker}
 use Rattle.nif_stream.specs.Taking.{Takes, source_of, place_of, left_of, bytes_of}
-use Rattle.nif_stream.specs.TakerLaws.{keeps_same, keeps_joined, if_prepended}
+use Rattle.nif_stream.specs.TakerLaws.{if_prepended}
 use Rattle.nif_decode.specs.declared.faults.ValueFault.{ValueFault}
-use Rattle.nif_decode.specs.declared.faults.ValueFault.TheVariants as fault
 use Rattle.nif_decode.specs.Answers.{Went, Stops, FailsThere, Stand}
 use Rattle.nif_decode.specs.WentLaws.{went_on, went_whole}
-use Rattle.nif_decode.specs.Faults.{Cause, OfValue, OfRead, cause, known}
+use Rattle.nif_decode.specs.Faults.{Cause, OfValue, cause, known}
 use Rattle.nif_file.specs.declared.faults.FileFault.TheVariants as file
 use Rattle.nif_file.specs.Stops.{Stop, of_value}
 use Rattle.nif_file.specs.Sizes.{size_of_fields}
 use Rattle.nif_file.specs.Head.{header_context}
 use Rattle.nif_file.specs.Checks.{header_check, types_fault}
 use Rattle.nif_file.specs.Files.{header_line, head_of}
-use Rattle.nif_file.specs.FileFails.{HeaderReads, HeaderFails, start_of, FileStops}
+use Rattle.nif_file.specs.FileFails.{HeaderReads, HeaderFails, start_of}
 use Rattle.nif_file.specs.HeaderParts.{with_members, MemberReads, PartReads}
 use Rattle.nif_file.specs.Heads.{IsNext, IsPart}
-use Rattle.nif_file.specs.HeaderReading.{HeaderStops, StopsThere, HasNoHeader, fault_of}
+use Rattle.nif_file.specs.HeaderReading.{StopsThere, HasNoHeader, fault_of}
 use Rattle.nif_file.proofs.HeaderSteps.{part_whole}
 use Rattle.nif_file.specs.LengthLaws.{length_text}
 use Rattle.nif_file.proofs.FieldPlaces.{drop_past}
 use Rattle.nif_file.proofs.MemberReading.{part_stops, passes_more, member_reads, member_refused, point_at}
-use Rattle.nif_file.specs.FaultLaws.{fault_read, fault_value, header_stops_file}
+use Rattle.nif_file.specs.FaultLaws.{fault_read, fault_value}
 
 -- ---- a fault of a value as one of a file
 
@@ -74,7 +72,7 @@ module _ {S : Type 0} (left : S → Option (List ℕ)) (still : S → S → Type
         → IsPart schema k held bytes counted → slice_get (header_line schema) k ≡ Some f → Went still faults start old → place_of old ≡ length bytes
         → left_of left start ≡ prepended bytes (left_of left old) → Went still faults old new → Stops left faults F (record { taker = old; nodes = counted; building = None; told = [] }) new (cause vf) → HasNoHeader left still faults schema start new (fault_of vf)
     value_ends F k held bytes counted f start old new vf fails part at before place given went stops = record {
-      went = went_on still faults start old new before went;
+      went = went_on left still faults start old new before went;
       read = λ e.
           let rose : Rose (faults (source_of old)) (faults (source_of new)) = subst (λ (c : Cause). Stops left faults F stand new c) (fault_read vf e) stops in
           rose_later (faults (source_of start)) (faults (source_of old)) (faults (source_of new)) before.later rose;

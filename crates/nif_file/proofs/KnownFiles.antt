@@ -7,9 +7,8 @@ use Rattle.nif_base.specs.File.{Block}
 use Rattle.nif_schema.specs.Declaration.{Name, Field}
 use Rattle.nif_schema.specs.Schema.{Schema, IsSchema}
 use Rattle.nif_schema.specs.Basic.{listed_leaf}
-use Rattle.nif_schema.specs.Roles.{Roles, has_line, is_named, is_of_basic, is_bare, is_plain, has_no_bounds, has_no_condition, lowest, highest}
+use Rattle.nif_schema.specs.Roles.{Roles, has_line, is_named, is_of_basic, is_bare, is_plain, has_no_bounds, lowest, highest}
 use Rattle.nif_schema.specs.declared.decls.Leaf.TheVariants as leaf
-use Rattle.nif_layout.specs.Context.{Context}
 use Rattle.nif_layout.specs.Earlier.{Earlier, Env, behind, passed}
 use Rattle.nif_layout.specs.Present.{present}
 use Rattle.nif_layout.specs.Form.{form_of}

@@ -1,16 +1,11 @@
 -- The type of a block is read, or it fails.
-use Rattle.std.proofs.Common.{◌≡◌, ℕ, ◌+◌, ◌-◌, ◌^◌, ◌<◌, ◌≤◌, ◌⊎◌, inl, inr, Bool, true, false, Option, Some, None, IfSome, option_and_then, [], ◌∷◌, ◌++◌, length, take, drop, get_or, slice_get, refl, sym, ◌∙◌, ap, subst, arith, ltb, le-ltb, ltb-true, ltb-false, length-append, true≢false, append_assoc, length-take-le, if◌then◌else◌}
+use Rattle.std.proofs.Common.{◌≡◌, ℕ, ◌+◌, ◌-◌, ◌^◌, ◌<◌, ◌≤◌, ◌⊎◌, inl, inr, Bool, true, false, Option, Some, None, IfSome, [], ◌++◌, length, take, drop, slice_get, refl, sym, ◌∙◌, ap, subst, arith, ltb, le-ltb, ltb-true, ltb-false, length-append, true≢false, append_assoc, length-take-le}
 use Rattle.std.proofs.Math.Seq.{take-add}
 use Rattle.std.proofs.lemmas.List.{length-drop}
-use Rattle.std.proofs.lemmas.List.Quantifiers.{position-Some}
-use Rattle.std.proofs.lemmas.Option.{slice_get-get_or}
-use Rattle.std.proofs.lemmas.Slice.Eq.{bytes_eq-Decides}
-use Rattle.std.specs.Str.{bytes_eq}
-use Rattle.std.specs.Option.{option_map_or}
 use Rattle.nif_base.specs.declared.orders.Order.{Order}
 use Rattle.nif_base.specs.Node.{number, is_little}
 use Rattle.nif_schema.specs.Declaration.{Name}
-use Rattle.nif_schema.specs.Schema.{Schema, find, find_block, has_block}
+use Rattle.nif_schema.specs.Schema.{Schema, find_block}
 use Rattle.nif_schema.specs.Reasons.{IsOpen, IsReason}
 use Rattle.nif_schema.specs.declared.faults.Closed.{Closed}
 use Rattle.nif_layout.specs.Earlier.{Env}
@@ -30,7 +25,7 @@ use Rattle.nif_file.specs.FileFails.{PartFails, sized_needs, KindRefused, NameRe
 use Rattle.nif_file.proofs.Walks.{Within, Sound, within_behind, none_some, some_same}
 use Rattle.nif_file.proofs.Pieces.{passes_none, part_excludes, part_one}
 use Rattle.nif_file.proofs.ReasonCases.{not_open, one_reason, open_or_closed}
-use Rattle.nif_file.specs.NameLaws.{block_name, found_by, found_name, found_number}
+use Rattle.nif_file.specs.NameLaws.{block_name}
 
 -- ---- names of types
 

@@ -1,5 +1,5 @@
 -- A whole file, part by part, and as one text.
-use Rattle.std.proofs.Common.{◌≡◌, ℕ, zero, suc, ◌+◌, ◌≤◌, ◌⊎◌, inl, inr, None, List, [], ◌∷◌, ◌++◌, length, refl, sym, ◌∙◌, ap, subst, arith, append-nil, lit≤}
+use Rattle.std.proofs.Common.{◌≡◌, ℕ, zero, suc, ◌+◌, ◌≤◌, ◌⊎◌, inl, inr, None, List, [], ◌++◌, length, refl, sym, ◌∙◌, ap, subst, arith, append-nil, lit≤}
 use Rattle.std.specs.Prelude.{codes}
 use Rattle.nif_base.specs.Node as node
 use Rattle.nif_base.specs.Node.{Node, Members, text, nodes, nodes_in}

@@ -1,5 +1,5 @@
 -- Laws of the faults of values as faults of files, and of headers as those of their files.
-use Rattle.std.proofs.Common.{◌≡◌, ◌≢◌, ℕ, inl, inr, List, [], length, refl}
+use Rattle.std.proofs.Common.{◌≡◌, ◌≢◌, ℕ, inl, inr, List, length, refl}
 use Rattle.nif_schema.specs.Schema.{Schema}
 use Rattle.nif_layout.specs.Fault.{Fault}
 use Rattle.nif_decode.specs.declared.faults.ValueFault.{ValueFault}

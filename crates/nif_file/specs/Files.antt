@@ -15,7 +15,7 @@ use Rattle.nif_schema.specs.declared.decls.What.TheVariants as what
 use Rattle.nif_layout.specs.Earlier.{Env, passed}
 use Rattle.nif_layout.specs.Kind.{Kind, Unknown, kind_of}
 use Rattle.nif_layout.specs.Shape.{Shape, LineShape}
-use Rattle.nif_base.specs.Limits.{most_file_bytes, most_nodes}
+use Rattle.nif_base.specs.Limits.{most_file_bytes, most_nodes, most_depth}
 use Rattle.nif_layout.specs.Laws.{line_text}
 use Rattle.nif_file.specs.Sizes.{size}
 use Rattle.nif_file.specs.Head.{header_context, file_context, block_context, order_in, version_in, number_of, type_names, index_word, type_place, stated_size}

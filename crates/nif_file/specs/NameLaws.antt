@@ -1,11 +1,10 @@
 -- Laws of the names of declarations that are found.
-use Rattle.std.proofs.Common.{◌≡◌, ℕ, ◌-◌, Bool, true, false, Option, Some, None, option_and_then, [], ◌∷◌, get_or, sym, ◌∙◌, ap, if◌then◌else◌}
+use Rattle.std.proofs.Common.{◌≡◌, ℕ, Bool, true, false, Option, Some, None, option_and_then, [], ◌∷◌, get_or, sym, ◌∙◌, ap, if◌then◌else◌}
 use Rattle.std.proofs.lemmas.List.Quantifiers.{position-Some}
 use Rattle.std.proofs.lemmas.Option.{slice_get-get_or}
 use Rattle.std.proofs.lemmas.Slice.Eq.{bytes_eq-Decides}
 use Rattle.std.specs.Str.{bytes_eq}
 use Rattle.std.specs.Option.{option_map_or}
-use Rattle.nif_base.specs.Node.{number}
 use Rattle.nif_schema.specs.Declaration.{Name}
 use Rattle.nif_schema.specs.Schema.{Schema, find, find_block, has_block}
 use Rattle.nif_file.specs.Files.{name_of}

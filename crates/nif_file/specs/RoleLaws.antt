@@ -1,5 +1,5 @@
 -- Laws of the declarations that the nine rules of the header ask for: what their fields are, and that they are always there.
-use Rattle.std.proofs.Common.{◌≡◌, ℕ, zero, suc, ◌<◌, ◌⊎◌, inl, inr, Bool, true, false, ◌&&◌, if◌then◌else◌, Option, Some, None, option_and_then, List, [], ◌∷◌, ◌++◌, length, get_or, slice_get, refl, sym, ◌∙◌, ap, subst, arith, true≢false, ◌≢◌, ◌+◌}
+use Rattle.std.proofs.Common.{◌≡◌, ℕ, zero, suc, ◌<◌, ◌⊎◌, inl, inr, Bool, true, false, ◌&&◌, if◌then◌else◌, Option, Some, None, option_and_then, List, [], ◌∷◌, ◌++◌, length, get_or, slice_get, refl, sym, ◌∙◌, ap, subst, arith, true≢false}
 use Rattle.std.specs.Prelude.{codes, bytes_eq, filter, MatchOption, is_none}
 use Rattle.std.specs.Option.{option_map_or}
 use Rattle.std.proofs.lemmas.Option.{slice_get_within, get_or_from_slice_get}
@@ -19,7 +19,6 @@ use Rattle.nif_layout.specs.Kind.{kind_of, kind_of_leaf}
 use Rattle.nif_layout.specs.Members.{Member, Check, Fields}
 use Rattle.nif_file.specs.Files.{header_line}
 use Rattle.nif_file.specs.NameLaws.{found_name}
-use Rattle.nif_base.specs.File.{Block}
 use Rattle.nif_layout.specs.Present.{present}
 
 abbrev pub Among : List Field → Field → Type 0

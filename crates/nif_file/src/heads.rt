@@ -56,7 +56,8 @@ pub(crate) fn version_of_line(line: &[u8]) -> Result<Version, FileFault>
     ensures { MatchResult result (λ version. (line_version line.now ≡ Some version.number) × (line_fault line.now ≡ None)) (λ fault. line_fault line.now ≡ Some (record { fault = fault; known = length line.now + 1 })) }
 {
     match line_version(line) {
-        Some(version) if LOWEST_VERSION <= version.number && version.number <= HIGHEST_VERSION => Ok(version),
+        Some(version) if LOWEST_VERSION <= version.number && version.number <= HIGHEST_VERSION =>
+            Ok(version),
         Some(version) => Err(FileFault::VersionRange {
             number: version.number,
         }),

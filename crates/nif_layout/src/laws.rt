@@ -52,6 +52,10 @@ pub fn line_spelled_or_fails<W>()
 
 /// In an open type each expression of each field of its line was read, and each path in it has a value, whatever was
 /// read of the fields before it; and a `width` that is the bare name of an array names arrays of numbers alone.
+///
+/// This is of the definition of values: it leaves no path out. It does not say where a path leads: `path_value` has a
+/// value for each path whose first name is that of an earlier field, and 0 where there is nothing. That each path of an
+/// open type leads to numbers alone is `nif_check::laws::open_types_have_values`, which says the more of its fields.
 pub fn all_defined()
     ensures { (S : Schema) (number : ℕ) → IsOpenType S number → AllDefined S number }
 {}
