@@ -143,7 +143,6 @@ fn put_zero_word<K: Sink>(version: Version, out: &mut Putter<'_, K>) -> Result<(
 }
 
 /// Puts a block.
-#[tactic(auto, using(nif_stream::specs::PutterLaws::puts))]
 fn put_block<K: Sink>(
     schema: &Schema,
     store: &Store,
@@ -183,7 +182,6 @@ fn put_blocks<K: Sink>(
 }
 
 /// Puts all parts.
-#[tactic(auto, using(nif_stream::specs::PutterLaws::puts))]
 fn put_parts<K: Sink>(
     schema: &Schema,
     parts: &GraphParts,
@@ -199,7 +197,6 @@ fn put_parts<K: Sink>(
 }
 
 /// Writes all parts.
-#[tactic(auto, using(nif_stream::specs::PutterLaws::puts))]
 fn write_parts<K: Sink>(schema: &Schema, parts: &GraphParts, sink: &mut K) -> Result<(), WriteFault>
     requires { CanPut schema.now parts.now }
     ensures ok { OnOk result (K.grew sink.old (parts_text schema.now parts.now) sink.new) }
