@@ -1,8 +1,8 @@
 //! Callers of a region with their contracts, and regions of many runs.
 ghost use Rattle.std.specs.Prelude.{◌≡◌, ◌<◌, ◌≤◌, None, IfOk, OnOk};
 
-use crate::{Cell, Region, RunId};
 use nif_base::NoMemory;
+use nif_region::{Cell, Region, RunId};
 use std::test::Fail;
 
 /// Builds a run of so many cells, whose bits count up from a first.
@@ -73,8 +73,8 @@ fn slides_runs_together(rt: HostRuntime) -> Result<(), Fail> {
     let mut region = Region::new(rt.alloc());
     let mut runs = Vec::new(rt.alloc());
     build_hundred(&mut region, &mut runs)?;
-    assert_eq!(rt; region.used(), 1000);
-    assert_eq!(rt; region.live(), 1000);
+    assert!(rt; region.used() == 1000);
+    assert!(rt; region.live() == 1000);
     for (i, run) in runs.as_slice().iter().enumerate() {
         assert!(rt; region.is_live(*run));
         if i % 2 == 1 {
@@ -83,15 +83,15 @@ fn slides_runs_together(rt: HostRuntime) -> Result<(), Fail> {
     }
     assert!(rt; region.used() <= 1000);
     region.compact();
-    assert_eq!(rt; region.used(), 500);
-    assert_eq!(rt; region.live(), 500);
+    assert!(rt; region.used() == 500);
+    assert!(rt; region.live() == 500);
     for (i, run) in runs.as_slice().iter().enumerate() {
         let want = if i % 2 == 0 {
             Some((i as u64).saturating_add(8))
         } else {
             None
         };
-        assert_eq!(rt; last_bits(&region, *run), want);
+        assert!(rt; last_bits(&region, *run) == want);
     }
     Ok(())
 }
@@ -107,9 +107,9 @@ fn builds_what_was_reserved(rt: HostRuntime) -> Result<(), Fail> {
     let (first, second) = build_reserved(&mut region, cell)?;
     assert!(rt; region.is_live(first));
     assert!(rt; region.is_live(second));
-    assert_eq!(rt; region.len(first), 2);
-    assert_eq!(rt; region.len(second), 0);
-    assert_eq!(rt; region.used(), 4);
+    assert!(rt; region.len(first) == 2);
+    assert!(rt; region.len(second) == 0);
+    assert!(rt; region.used() == 4);
     Ok(())
 }
 
@@ -129,13 +129,13 @@ fn writes_over_cells(rt: HostRuntime) -> Result<(), Fail> {
     region.open_run()?;
     region.push(cell(4))?;
     region.abandon();
-    assert_eq!(rt; region.used(), 3);
+    assert!(rt; region.used() == 3);
     assert!(rt; region.is_live(run));
-    assert_eq!(rt; region.len(run), 2);
+    assert!(rt; region.len(run) == 2);
     region.set(run, 0, cell(5));
-    assert_eq!(rt; region.get(run, 0), cell(5));
-    assert_eq!(rt; region.get(run, 1), cell(3));
+    assert!(rt; region.get(run, 0) == cell(5));
+    assert!(rt; region.get(run, 1) == cell(3));
     region.give_back(run);
-    assert_eq!(rt; region.used(), 0);
+    assert!(rt; region.used() == 0);
     Ok(())
 }
