@@ -1,7 +1,7 @@
 //! A tree with each kind of node, as bytes in both orders, whole and by its members, and to sinks that fail.
 ghost use Rattle.std.specs.Prelude.{◌≡◌, None, Some, OnOk, IfOk};
 ghost use Rattle.nif_region.specs.Contents.{find};
-ghost use Rattle.nif_encode_rows.specs.Sample.{sample};
+ghost use Rattle.nif_test_values.specs.Encoded.{encoded};
 
 use nif_base::{MemSink, NoMemory, Order};
 use nif_encode::{encode_member, encode_members, encode_value};
@@ -18,7 +18,7 @@ const BIG: &[u8] =
 
 fn build(store: &mut Store) -> Result<TreeId, NoMemory>
     requires { store.old.building ≡ None }
-    ensures { IfOk result (λ tree. find store.new.trees tree.run.key ≡ Some sample) }
+    ensures { IfOk result (λ tree. find store.new.trees tree.run.key ≡ Some encoded) }
 {
     store.begin()?;
     store.open_group()?;

@@ -1,9 +1,9 @@
--- A tree with each kind of node.
+-- A tree with each kind of node, in both byte orders.
 use Rattle.std.specs.Prelude.{true, false, codes, None, Some}
 use Rattle.nif_base.specs.Node.{Node, Num, Line, Ref, Text, Bytes, Group, Row, End, Here, Absent}
 
-abbrev pub sample : Node
-sample =
+abbrev pub encoded : Node
+encoded =
     Group (
     Here (Num 2 true 0x0102) (
     Here (Num 2 false 0x0102) (

@@ -1,7 +1,7 @@
 use Rattle.std.proofs.Common.{◌≡◌, None, Some}
 use Rattle.nif_region.specs.Contents.{find}
-use Rattle.nif_value_rows.specs.Sample.{sample}
-use Rattle.nif_value_rows.proofs.stores.abandons_each_call.Given as goal
+use Rattle.nif_test_values.specs.Sample.{sample}
+use Rattle.nif_test_values.proofs.stores.abandons_each_call.Given as goal
 
 -- no tree is being built, and the first is as it was
 abbrev pub invariant-loop-call : goal.invariant-loop-call

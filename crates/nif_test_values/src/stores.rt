@@ -1,7 +1,7 @@
 //! A store of trees, by its calls.
 ghost use Rattle.std.specs.Prelude.{◌≡◌, None, Some, OnOk, IfOk, IsSome};
 ghost use Rattle.nif_region.specs.Contents.{find};
-ghost use Rattle.nif_value_rows.specs.Sample.{sample};
+ghost use Rattle.nif_test_values.specs.Sample.{sample};
 
 use nif_base::NoMemory;
 use nif_value::{RefView, Step, Store, TreeId};
@@ -37,16 +37,16 @@ fn build(store: &mut Store) -> Result<TreeId, NoMemory>
 fn builds_and_counts(rt: HostRuntime) -> Result<(), Fail> {
     let mut store = Store::new(rt.alloc());
     let tree = build(&mut store)?;
-    assert_eq!(rt; store.nodes(tree), 8);
-    assert_eq!(rt; store.bytes_of(tree), 23);
-    assert_eq!(rt; store.cells_of(tree), 15);
-    assert_eq!(rt; store.ref_count(tree), 1);
+    assert!(rt; store.nodes(tree) == 8);
+    assert!(rt; store.bytes_of(tree) == 23);
+    assert!(rt; store.cells_of(tree) == 15);
+    assert!(rt; store.ref_count(tree) == 1);
     let other = store.copy(tree)?;
     store.set_ref(other, 0, None);
-    assert_eq!(rt; store.ref_at(other, 0).target, None);
-    assert_eq!(rt; store.ref_at(tree, 0).target, Some(1));
+    assert!(rt; store.ref_at(other, 0).target == None);
+    assert!(rt; store.ref_at(tree, 0).target == Some(1));
     store.drop_tree(tree);
-    assert_eq!(rt; store.nodes(other), 8);
+    assert!(rt; store.nodes(other) == 8);
     Ok(())
 }
 
@@ -92,7 +92,7 @@ fn abandons_each_call(rt: HostRuntime) -> Result<(), Fail> {
     for call in 0..10 {
         begin_with(&mut store, call)?;
         store.abandon();
-        assert_eq!(rt; store.nodes(tree), 8);
+        assert!(rt; store.nodes(tree) == 8);
     }
     Ok(())
 }
@@ -102,9 +102,9 @@ fn builds_what_was_reserved(rt: HostRuntime) -> Result<(), Fail> {
     let mut store = Store::new(rt.alloc());
     store.reserve(2 * (2 * 8 + 23 / 8 + 1), 2)?;
     let one = build(&mut store)?;
-    assert_eq!(rt; store.nodes(one), 8);
+    assert!(rt; store.nodes(one) == 8);
     let other = build(&mut store)?;
-    assert_eq!(rt; store.nodes(other), 8);
+    assert!(rt; store.nodes(other) == 8);
     Ok(())
 }
 
@@ -134,9 +134,9 @@ fn walks_in_order(rt: HostRuntime) -> Result<(), Fail> {
         Step::End,
         Step::End,
     ] {
-        assert_eq!(rt; walk.next(), Some(step));
+        assert!(rt; walk.next() == Some(step));
     }
-    assert_eq!(rt; walk.next(), None);
+    assert!(rt; walk.next() == None);
     Ok(())
 }
 
@@ -149,12 +149,12 @@ fn copies_bytes_in_order(rt: HostRuntime) -> Result<(), Fail> {
     store.close();
     let tree = store.finish();
     let mut walk = store.walk(tree);
-    assert_eq!(rt; walk.next(), Some(Step::Bytes { len: 10 }));
+    assert!(rt; walk.next() == Some(Step::Bytes { len: 10 }));
     let mut piece = [0u8; 7];
-    assert_eq!(rt; walk.bytes(&mut piece), 7);
-    assert_eq!(rt; piece, *b"0123456");
-    assert_eq!(rt; walk.bytes(&mut piece), 3);
-    assert_eq!(rt; piece, *b"7893456");
-    assert_eq!(rt; walk.bytes(&mut piece), 0);
+    assert!(rt; walk.bytes(&mut piece) == 7);
+    assert!(rt; piece == *b"0123456");
+    assert!(rt; walk.bytes(&mut piece) == 3);
+    assert!(rt; piece == *b"7893456");
+    assert!(rt; walk.bytes(&mut piece) == 0);
     Ok(())
 }
