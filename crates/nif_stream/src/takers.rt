@@ -277,6 +277,3 @@ impl<'a, S: Source> Taker<'a, S> {
         Ok(!self.hold()?)
     }
 }
-
-#[cfg(test)]
-mod tests;
