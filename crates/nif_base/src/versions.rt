@@ -85,6 +85,3 @@ fn part(digits: &[u8]) -> Option<u8>
     }
     u8::try_from(value).ok()
 }
-
-#[cfg(test)]
-mod tests;

@@ -181,14 +181,37 @@ fn new_case(alloc: Global, name: &str, pieces: &[usize]) -> Result<Case, Trouble
     })
 }
 
+/// Adds the letter of a word as often as the number behind it says, or once.
+fn add_letters(letters: &mut Vec<u8>, word: &str) -> Result<(), Trouble> {
+    let Some((letter, times)) = word.split_at_checked(1) else {
+        return Err(Trouble::BadLine);
+    };
+    let times = if times.is_empty() {
+        1
+    } else {
+        number::<u32>(times)?
+    };
+    add_times(letters, times, letter.as_bytes())
+}
+
+/// A letter for each call.
+fn call_letters(alloc: Global, calls: &str) -> Result<Vec<u8>, Trouble> {
+    let mut letters = Vec::new(alloc);
+    for word in calls.split_whitespace() {
+        add_letters(&mut letters, word)?;
+    }
+    Ok(letters)
+}
+
 /// Sets which call or write fails.
 fn set_fails(alloc: Global, case: &mut Case, rest: &str) -> Result<(), Trouble> {
     match split_word(rest) {
         ("call", number_text) => case.failing = Some(number::<u64>(number_text)?),
         ("print", number_text) => case.unprinted = Some(number::<u64>(number_text)?),
-        ("calls", letters) => {
-            let letters = Vec::from_slice(alloc, letters.as_bytes())?;
-            case.turns = Turns::Calls { letters };
+        ("calls", calls) => {
+            case.turns = Turns::Calls {
+                letters: call_letters(alloc, calls)?,
+            }
         }
         ("prints", "") => case.turns = Turns::Prints,
         _ => return Err(Trouble::BadLine),

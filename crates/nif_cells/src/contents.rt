@@ -150,6 +150,3 @@ impl Content {
         }
     }
 }
-
-#[cfg(test)]
-mod tests;

@@ -8,6 +8,3 @@ pub mod places;
 
 pub use parts::{BlockPart, Blocks, GraphParts};
 pub use places::RolePlaces;
-
-#[cfg(test)]
-mod tests;

@@ -12,6 +12,3 @@ mod roles;
 
 pub use lists::{Lists, find_block};
 pub use reading::{read_lists, type_name};
-
-#[cfg(test)]
-mod tests;

@@ -266,6 +266,3 @@ impl Region {
         self.live as u64
     }
 }
-
-#[cfg(test)]
-mod tests;

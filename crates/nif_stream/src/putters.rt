@@ -162,6 +162,3 @@ impl<'a, K: Sink> Putter<'a, K> {
         write_all(sink, pending.bytes())
     }
 }
-
-#[cfg(test)]
-mod tests;

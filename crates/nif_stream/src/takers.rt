@@ -276,6 +276,3 @@ impl<'a, S: Source> Taker<'a, S> {
         Ok(!self.hold()?)
     }
 }
-
-#[cfg(test)]
-mod tests;

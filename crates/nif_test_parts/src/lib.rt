@@ -1,0 +1,12 @@
+//! Tests alone, of what no command shows: a region of many runs, files and bytes in memory, the real shelf, and
+//! expressions with bindings.
+#![tactic(auto)]
+
+#[cfg(test)]
+mod bindings;
+#[cfg(test)]
+mod memory;
+#[cfg(test)]
+mod regions;
+#[cfg(test)]
+mod system;
