@@ -1,6 +1,7 @@
 -- A whole file: its header, and all that stands behind it.
 use Rattle.std.proofs.Common.{◌≡◌, ℕ, ◌+◌, ◌≤◌, ◌⊎◌, inr, Option, Some, None, List, [], ◌∷◌, ◌++◌, length, refl, sym, ◌∙◌, ap, subst, subst₂, arith, append-nil, zero-add}
 use Rattle.std.specs.Prelude.{IfSome}
+use Rattle.nif_base.specs.Limits.{most_nodes}
 use Rattle.nif_base.specs.Node as node
 use Rattle.nif_base.specs.Node.{Node, Members, text, nodes, nodes_in}
 use Rattle.nif_base.specs.File.{File}
@@ -10,11 +11,10 @@ use Rattle.nif_schema.specs.Roles.{Roles}
 use Rattle.nif_schema.specs.declared.contexts.Context as code
 use Rattle.nif_region.specs.Contents.{find, AreApart}
 use Rattle.nif_stream.specs.declared.takers.Taker.{Taker}
-use Rattle.nif_stream.specs.Taking.{Takes, source_of, place_of, left_of}
+use Rattle.nif_stream.specs.Taking.{Takes, source_of, place_of, left_of, bytes_of}
 use Rattle.nif_stream.specs.TakerLaws.{takes_joined}
 use Rattle.nif_layout.specs.Context.{Context}
 use Rattle.nif_layout.specs.Earlier.{Env}
-use Rattle.nif_base.specs.Limits.{most_nodes}
 use Rattle.nif_layout.specs.Fault.{Point}
 use Rattle.nif_decode.specs.Answers.{Went}
 use Rattle.nif_value.specs.Trees.{Trees}
@@ -143,13 +143,19 @@ module _ {T : Type 0} (left : T → Option (List ℕ)) (still : T → T → Type
               let same : b ≡ text_of S it ++ rest = cc in
               same ∙ ap (λ x. text_of S it ++ x) end ∙ append-nil (text_of S it)
 
+      -- where no byte is left behind those that are held, none is left in the source
+      at_end : (held : List ℕ) (rest : Option (List ℕ)) → IsAtEnd (prepended held rest) → IsAtEnd rest
+      at_end held None end = tt
+      at_end [] (Some rest) end = end
+      at_end (b ∷ held) (Some rest) end = absurd (cc)
+
       one_tree : between.trees ≡ before.trees ++ (header.tree.run.key, node.Group h.members) ∷ [] → before.trees ≡ [] → between.trees ≡ (header.tree.run.key, node.Group h.members) ∷ []
       one_tree e none = e ∙ ap (λ trees. trees ++ (header.tree.run.key, node.Group h.members) ∷ []) none
 
       -- the file was read
       pub has_file : (result : GraphParts) → before.trees ≡ [] → result.store ≡ after → after.building ≡ None → result.header ≡ header.tree → result.places ≡ header.places → result.context ≡ header.context → result.blocks ≡ parts
-          → result.footer ≡ footer → result.nodes ≡ now → result.bytes ≡ place_of new → HasFile S (left_of left old) result
-      has_file result none store building head places context blocks foot count bytes = record { file = it; says = says; is = is_file; told = told; holds = holds }
+          → result.footer ≡ footer → result.nodes ≡ now → result.bytes ≡ place_of new → HasFile S (left_of left old) (left (source_of new)) result
+      has_file result none store building head places context blocks foot count bytes = record { file = it; says = says; is = is_file; told = told; end = at_end (bytes_of new.held) (left (source_of new)) r.end; holds = holds }
         where
           found_header : find after.trees header.tree.run.key ≡ Some (node.Group h.members)
           found_header = ap (λ trees. find trees header.tree.run.key) r.trees ∙ find_kept between.trees (block_trees parts r.blocks ++ (footer.run.key, r.footer) ∷ []) header.tree.run.key (node.Group h.members) h.found

@@ -15,7 +15,7 @@ use Rattle.nif_file.specs.LengthLaws.{size_is_length}
 use Rattle.nif_print.specs.Files.{summary_text}
 use Rattle.nif_tool.specs.Command.{SchemaName}
 use Rattle.nif_tool.specs.Schemas.{HasSchema}
-use Rattle.nif_tool.specs.Meaning.{files_of, Accepts, Checks, WhereTold, summary_of}
+use Rattle.nif_tool.specs.Meaning.{files_of, Accepts, Checks, IsLineBy, WhereTold, summary_of}
 use Rattle.nif_tool.specs.Steps.{CopiesBy, IsAccepted, Stores, parts_summary}
 use Rattle.nif_tool.specs.declared.files.Accepted.{Accepted}
 use Rattle.nif_tool.specs.declared.report.Fault.TheVariants as fault
@@ -67,6 +67,17 @@ checked_as name file None accepted is = tt
 checked_as name file (Some d) accepted is =
     accepted_as name file d accepted.schema is.loaded.whole (λ schema whole bytes. parts_summary accepted.parts ≡ summary_of schema whole bytes) is.passes is.loaded.told is.loaded.is
     (summary_said accepted.schema accepted.parts is.loaded.whole is.loaded.says is.loaded.is)
+
+-- its line, whether files are told or not
+pub line_by : (name : SchemaName) (file : List ℕ) (old : Option Files) (accepted : Accepted) → IsAccepted name file old accepted → IsLineBy name old (parts_summary accepted.parts)
+line_by name file old accepted is = (
+  accepted.schema,
+  is.loaded.whole,
+  text_of accepted.schema is.loaded.whole,
+  (is.schema, is.told),
+  is.loaded.is,
+  summary_said accepted.schema accepted.parts is.loaded.whole is.loaded.says is.loaded.is,
+)
 
 -- and then written
 copied_whole : (name : SchemaName) (file copy : List ℕ) (d e : Files) (accepted : Accepted) (is : IsAccepted name file (Some d) accepted)

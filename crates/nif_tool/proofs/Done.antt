@@ -17,6 +17,7 @@ use Rattle.nif_file.specs.Files.{IsFile}
 use Rattle.nif_file.specs.FileFails.{FileFails}
 use Rattle.nif_file.specs.FileLaws.{FileOrFault}
 use Rattle.nif_file.specs.declared.faults.FileFault.{FileFault}
+use Rattle.nif_tool.specs.Counts.{Counts}
 use Rattle.nif_tool.specs.Command.{Command, SchemaName, Plain, Scene, Named, Check, Copy}
 use Rattle.nif_tool.specs.Command as command
 use Rattle.nif_tool.specs.Schemas.{Passes, Refuses, Spells, schema_bytes, told_bytes}
@@ -112,42 +113,42 @@ no_refusal refusal other not (inl e) = not e
 no_refusal refusal other not (inr h) = h
 
 pub done_only : Laws → (c : Command) → DoneOnly c
-done_only laws c files new None text opens opens' reads reads' writes writes' can says causes none = inl refl
-done_only laws c files new (Some fault.NoMemory) text opens opens' reads reads' writes writes' can says causes none = inr refl
-done_only laws c files new (Some fault.OpenFault) text opens opens' reads reads' writes writes' can says causes none = absurd (none.opening (causes.opening refl))
-done_only laws c files new (Some fault.ReadFault) text opens opens' reads reads' writes writes' can says causes none = absurd (none.reading (causes.reading refl))
-done_only laws c files new (Some fault.WriteFault) text opens opens' reads reads' writes writes' can says causes none = absurd (none.writing (causes.writing refl))
-done_only laws (command.Schema name) files new (Some fault.Usage) text opens opens' reads reads' writes writes' can says causes none = absurd says.0
-done_only laws (Check name file) files new (Some fault.Usage) text opens opens' reads reads' writes writes' can says causes none = absurd says.0
-done_only laws (Copy name file copy) files new (Some fault.Usage) text opens opens' reads reads' writes writes' can says causes none =
+done_only laws c files new None text before after can says causes none = inl refl
+done_only laws c files new (Some fault.NoMemory) text before after can says causes none = inr refl
+done_only laws c files new (Some fault.OpenFault) text before after can says causes none = absurd (none.opening (causes.opening refl))
+done_only laws c files new (Some fault.ReadFault) text before after can says causes none = absurd (none.reading (causes.reading refl))
+done_only laws c files new (Some fault.WriteFault) text before after can says causes none = absurd (none.writing (causes.writing refl))
+done_only laws (command.Schema name) files new (Some fault.Usage) text before after can says causes none = absurd says.0
+done_only laws (Check name file) files new (Some fault.Usage) text before after can says causes none = absurd says.0
+done_only laws (Copy name file copy) files new (Some fault.Usage) text before after can says causes none =
     absurd (no_refusal fault.Usage fault.WriteFault (λ e. cc) says.0)
-done_only laws (command.Schema name) files new (Some fault.PrintFault) text opens opens' reads reads' writes writes' can says causes none = absurd says.0
-done_only laws (Check name file) files new (Some fault.PrintFault) text opens opens' reads reads' writes writes' can says causes none = absurd says.0
-done_only laws (Copy name file copy) files new (Some fault.PrintFault) text opens opens' reads reads' writes writes' can says causes none =
+done_only laws (command.Schema name) files new (Some fault.PrintFault) text before after can says causes none = absurd says.0
+done_only laws (Check name file) files new (Some fault.PrintFault) text before after can says causes none = absurd says.0
+done_only laws (Copy name file copy) files new (Some fault.PrintFault) text before after can says causes none =
     absurd (no_refusal fault.PrintFault fault.WriteFault (λ e. cc) says.0)
-done_only laws (command.Schema name) files new (Some (fault.Schema r)) text opens opens' reads reads' writes writes' can says causes none =
+done_only laws (command.Schema name) files new (Some (fault.Schema r)) text before after can says causes none =
     absurd (schema_only laws (schema_bytes name files) can.0 r can.1 (told_as name files (λ b. Lists b (Some (fault.Schema r)) text) says.1.0))
-done_only laws (Check name file) files new (Some (fault.Schema r)) text opens opens' reads reads' writes writes' can says causes none =
+done_only laws (Check name file) files new (Some (fault.Schema r)) text before after can says causes none =
     absurd (accepted_schema laws name file files r can says.1.0)
-done_only laws (Copy name file copy) files new (Some (fault.Schema r)) text opens opens' reads reads' writes writes' can says causes none =
+done_only laws (Copy name file copy) files new (Some (fault.Schema r)) text before after can says causes none =
     absurd (accepted_schema laws name file files r can (copy_refused_as name file copy files new r text says.1))
-done_only laws (command.Schema name) files new (Some (fault.File r)) text opens opens' reads reads' writes writes' can says causes none = absurd says.0
-done_only laws (Check name file) files new (Some (fault.File r)) text opens opens' reads reads' writes writes' can says causes none =
+done_only laws (command.Schema name) files new (Some (fault.File r)) text before after can says causes none = absurd says.0
+done_only laws (Check name file) files new (Some (fault.File r)) text before after can says causes none =
     absurd (accepted_file laws name file files r can says.1.0)
-done_only laws (Copy name file copy) files new (Some (fault.File r)) text opens opens' reads reads' writes writes' can says causes none =
+done_only laws (Copy name file copy) files new (Some (fault.File r)) text before after can says causes none =
     absurd (accepted_file laws name file files r can (copy_failed_as name file copy files new r text says.1))
 
 -- so is a command whose text was printed
-pub completes : (c : Command) (old new : Option Files) (answer : Option Fault) (text : List ℕ) (opens opens' reads reads' writes writes' : ℕ) → DoneOnly c → IsSomeAnd old (CanBeDone c)
-    → Prints (λ a t. Answers (Some c) old new a t × HasCauses a opens opens' reads reads' writes writes') answer text → (answer ≡ Some fault.PrintFault → ⊥)
-    → NoneRose opens opens' reads reads' writes writes' → IsDone answer
-completes c None new answer text opens opens' reads reads' writes writes' law can is prints none = absurd can
-completes c (Some d) new None text opens opens' reads reads' writes writes' law can is prints none = inl refl
-completes c (Some d) new (Some fault.PrintFault) text opens opens' reads reads' writes writes' law can is prints none = absurd (prints refl)
-completes c (Some d) new (Some fault.Usage) text opens opens' reads reads' writes writes' law can is prints none = law d new _ text opens opens' reads reads' writes writes' can is.0 is.1 none
-completes c (Some d) new (Some (fault.Schema _)) text opens opens' reads reads' writes writes' law can is prints none = law d new _ text opens opens' reads reads' writes writes' can is.0 is.1 none
-completes c (Some d) new (Some (fault.File _)) text opens opens' reads reads' writes writes' law can is prints none = law d new _ text opens opens' reads reads' writes writes' can is.0 is.1 none
-completes c (Some d) new (Some fault.OpenFault) text opens opens' reads reads' writes writes' law can is prints none = law d new _ text opens opens' reads reads' writes writes' can is.0 is.1 none
-completes c (Some d) new (Some fault.ReadFault) text opens opens' reads reads' writes writes' law can is prints none = law d new _ text opens opens' reads reads' writes writes' can is.0 is.1 none
-completes c (Some d) new (Some fault.WriteFault) text opens opens' reads reads' writes writes' law can is prints none = law d new _ text opens opens' reads reads' writes writes' can is.0 is.1 none
-completes c (Some d) new (Some fault.NoMemory) text opens opens' reads reads' writes writes' law can is prints none = inr refl
+pub completes : (c : Command) (old new : Option Files) (answer : Option Fault) (text : List ℕ) (before after : Counts) → DoneOnly c → IsSomeAnd old (CanBeDone c)
+    → Prints (λ a t. Answers (Some c) old new a t × HasCauses a before after) answer text → (answer ≡ Some fault.PrintFault → ⊥)
+    → NoneRose before after → IsDone answer
+completes c None new answer text before after law can is prints none = absurd can
+completes c (Some d) new None text before after law can is prints none = inl refl
+completes c (Some d) new (Some fault.PrintFault) text before after law can is prints none = absurd (prints refl)
+completes c (Some d) new (Some fault.Usage) text before after law can is prints none = law d new _ text before after can is.0 is.1 none
+completes c (Some d) new (Some (fault.Schema _)) text before after law can is prints none = law d new _ text before after can is.0 is.1 none
+completes c (Some d) new (Some (fault.File _)) text before after law can is prints none = law d new _ text before after can is.0 is.1 none
+completes c (Some d) new (Some fault.OpenFault) text before after law can is prints none = law d new _ text before after can is.0 is.1 none
+completes c (Some d) new (Some fault.ReadFault) text before after law can is prints none = law d new _ text before after can is.0 is.1 none
+completes c (Some d) new (Some fault.WriteFault) text before after law can is prints none = law d new _ text before after can is.0 is.1 none
+completes c (Some d) new (Some fault.NoMemory) text before after law can is prints none = inr refl

@@ -25,7 +25,8 @@ abbrev pub command_of : List (String Global) → Option Command
 command_of (verb ∷ schema ∷ []) =
     if bytes_eq (string_bytes verb) (codes "schema") then Some (Schema (schema_named (string_bytes schema))) else None
 command_of (verb ∷ schema ∷ file ∷ []) =
-    if bytes_eq (string_bytes verb) (codes "check") then Some (Check (schema_named (string_bytes schema)) (string_bytes file)) else None
+    if bytes_eq (string_bytes verb) (codes "check") then Some
+    (Check (schema_named (string_bytes schema)) (string_bytes file)) else None
 command_of (verb ∷ schema ∷ file ∷ copy ∷ []) =
     if bytes_eq (string_bytes verb) (codes "copy")
     then Some (Copy (schema_named (string_bytes schema)) (string_bytes file) (string_bytes copy)) else None

@@ -3,6 +3,7 @@ pub mod Lines
 pub mod Refusals
 pub mod Command
 pub mod Schemas
+pub mod Counts
 pub mod Meaning
 pub mod Words
 pub mod Steps

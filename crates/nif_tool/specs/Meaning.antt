@@ -19,6 +19,7 @@ use Rattle.nif_print.specs.Files.{summary_text}
 use Rattle.nif_print.specs.Listing.{IsListing}
 use Rattle.nif_tool.specs.Command.{Command, SchemaName, Named, Check, Copy}
 use Rattle.nif_tool.specs.Command as command
+use Rattle.nif_tool.specs.Counts.{Counts, counts}
 use Rattle.nif_tool.specs.Schemas.{HasSchema, Passes, Refuses, schema_bytes, told_bytes}
 use Rattle.nif_tool.specs.Lines.{line_of}
 use Rattle.nif_tool.specs.declared.report.Fault.{Fault}
@@ -71,19 +72,22 @@ FileIs name files P = IsSomeAnd (get files name) P
 -- The schema passes, and by it the bytes of the file are a file of which P holds.
 abbrev pub Accepts : SchemaName → List ℕ → Files → (Schema → File → List ℕ → Type 0) → Type 0
 Accepts name file files P =
-    (schema : Schema) × HasSchema name files schema × FileIs file files (λ bytes. (whole : File) × IsFile schema whole bytes × P schema whole bytes)
+    (schema : Schema) × HasSchema name files schema
+    × FileIs file files (λ bytes. (whole : File) × IsFile schema whole bytes × P schema whole bytes)
 
 -- What a refusal says. One of the schema: the schema has that fault. One of the file: the schema passes, and by it the
 -- file has that fault. (`IsSchema` holds of each schema that was read; by it the file has no other answer.)
 abbrev pub Refused : SchemaName → List ℕ → Files → Fault → Type 0
 Refused name file files (fault.Schema refusal) = IsSomeAnd (schema_bytes name files) (λ bytes. Refuses bytes refusal)
 Refused name file files (fault.File refusal) =
-    (schema : Schema) × IsSchema schema × HasSchema name files schema × FileIs file files (λ bytes. FileFails schema bytes refusal)
+    (schema : Schema) × IsSchema schema × HasSchema name files schema
+    × FileIs file files (λ bytes. FileFails schema bytes refusal)
 Refused name file files _ = ⊤
 
 -- the line that is printed of a file
 abbrev pub summary_of : Schema → File → List ℕ → List ℕ
-summary_of schema whole bytes = summary_text (version_in (head_in schema whole)) (length whole.blocks) (length bytes) (nodes_of whole)
+summary_of schema whole bytes = summary_text (version_in (head_in schema whole)) (length whole.blocks) (length bytes)
+    (nodes_of whole)
 
 -- What an answer to `check S F` says of the files and of the text that is printed. Done: the file is accepted, and its
 -- line is printed.
@@ -97,7 +101,8 @@ Checks name file files (Some refusal) text = Refused name file files refusal
 abbrev pub Copies : SchemaName → List ℕ → List ℕ → Files → Files → Option Fault → List ℕ → Type 0
 Copies name file copy old new None text =
     Accepts name file old (λ schema whole bytes. (text ≡ summary_of schema whole bytes) × (new ≡ insert old copy bytes))
-Copies name file copy old new (Some fault.WriteFault) text = Accepts name file old (λ schema whole bytes. (n : ℕ) × (new ≡ insert old copy (take n bytes)))
+Copies name file copy old new (Some fault.WriteFault) text = Accepts name file old
+    (λ schema whole bytes. (n : ℕ) × (new ≡ insert old copy (take n bytes)))
 Copies name file copy old new (Some refusal) text = Refused name file old refusal × (new ≡ old)
 
 -- the files, where they are told
@@ -110,9 +115,30 @@ WhereTold old new P = IfSome old (λ d. IsSomeAnd new (P d))
 
 -- What the answer of a command says of the files and of what is printed, but for a refusal's line.
 abbrev pub Does : Command → Option Files → Option Files → Option Fault → List ℕ → Type 0
-Does (command.Schema name) old new answer text = IfSome (told_bytes name old) (λ bytes. Lists bytes answer text) × (new ≡ old)
+Does (command.Schema name) old new answer text = IfSome (told_bytes name old) (λ bytes. Lists bytes answer text)
+    × (new ≡ old)
 Does (Check name file) old new answer text = IfSome old (λ d. Checks name file d answer text) × (new ≡ old)
 Does (Copy name file copy) old new answer text = WhereTold old new (λ d e. Copies name file copy d e answer text)
+
+-- a schema of this name: it passes where its bytes are told, as those of a built-in schema always are
+abbrev pub IsOfName : SchemaName → Option Files → Schema → Type 0
+IsOfName name files schema = IsSchema schema
+    × IfSome (told_bytes name files) (λ bytes. IsSomeAnd bytes (λ b. Passes b schema))
+
+-- the line of some file by some schema of this name
+abbrev pub IsLineBy : SchemaName → Option Files → List ℕ → Type 0
+IsLineBy name files text =
+    (schema : Schema) × (whole : File) × (bytes : List ℕ) × IsOfName name files schema × IsFile schema whole bytes
+    × (text ≡ summary_of schema whole bytes)
+
+-- What Done says of the text wherever nothing is told of the files, too: it is the listing of some schema, or the line
+-- of some file. (Which file that is, `Does` says, where the files are told.)
+abbrev pub PrintsDone : Command → Option Files → Option Fault → List ℕ → Type 0
+PrintsDone (command.Schema name) files None text = (schema : Schema) × IsOfName name files schema
+    × IsListing schema text
+PrintsDone (Check name file) files None text = IsLineBy name files text
+PrintsDone (Copy name file copy) files None text = IsLineBy name files text
+PrintsDone c files (Some refusal) text = ⊤
 
 -- A refusal prints its line.
 abbrev pub IsRefusalText : Option Fault → List ℕ → Type 0
@@ -123,21 +149,28 @@ IsRefusalText (Some refusal) text = text ≡ line_of refusal
 abbrev pub Answers : Option Command → Option Files → Option Files → Option Fault → List ℕ → Type 0
 Answers None old new answer text = (answer ≡ Some fault.Usage) × (new ≡ old) × (text ≡ line_of fault.Usage)
 Answers (Some c) old new answer text = CanAnswer c answer × Does c old new answer text × IsRefusalText answer text
+    × PrintsDone c old answer text
 
 -- ---- faults of the outside
 
 -- each fault of the outside comes only where its count rose; no count falls
-pub record HasCauses (answer : Option Fault) (opens opens' reads reads' writes writes' : ℕ) : Type 0 where
-  pub opens_later : opens ≤ opens'
-  pub reads_later : reads ≤ reads'
-  pub writes_later : writes ≤ writes'
-  pub opening : answer ≡ Some fault.OpenFault → Rose opens opens'
-  pub reading : answer ≡ Some fault.ReadFault → Rose reads reads'
-  pub writing : answer ≡ Some fault.WriteFault → Rose writes writes'
+pub record HasCauses (answer : Option Fault) (old new : Counts) : Type 0 where
+  pub opens_later : old.opens ≤ new.opens
+  pub reads_later : old.reads ≤ new.reads
+  pub writes_later : old.writes ≤ new.writes
+  pub opening : answer ≡ Some fault.OpenFault → Rose old.opens new.opens
+  pub reading : answer ≡ Some fault.ReadFault → Rose old.reads new.reads
+  pub writing : answer ≡ Some fault.WriteFault → Rose old.writes new.writes
+
+-- the same of a shelf before and after, by the functions that tell its counts
+abbrev pub Causes : {S : Type 0} → (S → ℕ) → (S → ℕ) → (S → ℕ) → S → S → Option Fault → Type 0
+Causes opens reads writes old new answer = HasCauses answer (counts opens reads writes old)
+    (counts opens reads writes new)
 
 -- Where printing failed, a prefix of the text of the answer that would have been was printed; else the whole text.
 abbrev pub Prints : (Option Fault → List ℕ → Type 0) → Option Fault → List ℕ → Type 0
-Prints P (Some fault.PrintFault) text = (answer : Option Fault) × (whole : List ℕ) × (answer ≢ Some fault.PrintFault) × P answer whole × ((n : ℕ) × (text ≡ take n whole))
+Prints P (Some fault.PrintFault) text = (answer : Option Fault) × (whole : List ℕ) × (answer ≢ Some fault.PrintFault)
+    × P answer whole × ((n : ℕ) × (text ≡ take n whole))
 Prints P answer text = P answer text
 
 -- the schema is a file of this name
@@ -147,23 +180,27 @@ IsFileOf _ name = ⊥
 
 -- The inputs of a command, each at its turn: the schema, and the file where the schema passes.
 abbrev pub IsInput : SchemaName → List ℕ → Option Files → List ℕ → Type 0
-IsInput schema file files name = IsFileOf schema name ⊎ ((name ≡ file) × IfSome files (λ d. (passed : Schema) × HasSchema schema d passed))
+IsInput schema file files name = IsFileOf schema name
+    ⊎ ((name ≡ file) × IfSome files (λ d. (passed : Schema) × HasSchema schema d passed))
 
 -- what a command asks for at its turn: an input, or the copy, where the file is accepted
 abbrev pub IsAsked : Command → Option Files → Kind → List ℕ → Type 0
 IsAsked (command.Schema schema) files Input name = IsFileOf schema name
 IsAsked (Check schema file) files Input name = IsInput schema file files name
 IsAsked (Copy schema file copy) files Input name = IsInput schema file files name
-IsAsked (Copy schema file copy) files Output name = (name ≡ copy) × IfSome files (λ d. Accepts schema file d (λ passed whole bytes. ⊤))
+IsAsked (Copy schema file copy) files Output name = (name ≡ copy)
+    × IfSome files (λ d. Accepts schema file d (λ passed whole bytes. ⊤))
 IsAsked _ files kind name = ⊥
 
--- after a fault of opening, where the refusal is told, that is what was asked for
+-- After a fault of opening, where the refusal is told, that is what was asked for. (A shelf in memory tells it as long
+-- as `MemShelf::tells_refusals` answers true, since the count of failed opens rose.)
 abbrev pub RefusedFor : Command → Option Files → Option Fault → Option Refusal → Type 0
 RefusedFor c files answer refused = answer ≡ Some fault.OpenFault → IfSome refused (λ r. IsAsked c files r.kind r.name)
 
 -- after a fault of reading, where the input is told, that is what was asked for
 abbrev pub ReadFrom : Command → Option Files → Option Fault → Option Desk → Type 0
-ReadFrom c files answer desk = answer ≡ Some fault.ReadFault → IfSome desk (λ d. (name : List ℕ) × (d.input ≡ Some name) × IsAsked c files Input name)
+ReadFrom c files answer desk = answer ≡ Some fault.ReadFault
+    → IfSome desk (λ d. (name : List ℕ) × (d.input ≡ Some name) × IsAsked c files Input name)
 
 -- ---- what can be done is done
 
@@ -174,10 +211,10 @@ CanBeDone (Check name file) files = Accepts name file files (λ schema whole byt
 CanBeDone (Copy name file copy) files = Accepts name file files (λ schema whole bytes. AreBytes bytes)
 
 -- no count of faults of a shelf rose
-pub record NoneRose (opens opens' reads reads' writes writes' : ℕ) : Type 0 where
-  pub opening : ¬ Rose opens opens'
-  pub reading : ¬ Rose reads reads'
-  pub writing : ¬ Rose writes writes'
+pub record NoneRose (old new : Counts) : Type 0 where
+  pub opening : ¬ Rose old.opens new.opens
+  pub reading : ¬ Rose old.reads new.reads
+  pub writing : ¬ Rose old.writes new.writes
 
 -- it was done, or memory ran out
 abbrev pub IsDone : Option Fault → Type 0
@@ -185,5 +222,7 @@ IsDone answer = (answer ≡ None) ⊎ (answer ≡ Some fault.NoMemory)
 
 -- Where a command can be done and no count of faults rose, it has no other answer.
 abbrev pub DoneOnly : Command → Type 0
-DoneOnly c = (files : Files) (new : Option Files) (answer : Option Fault) (text : List ℕ) (opens opens' reads reads' writes writes' : ℕ) → CanBeDone c files
-    → Answers (Some c) (Some files) new answer text → HasCauses answer opens opens' reads reads' writes writes' → NoneRose opens opens' reads reads' writes writes' → IsDone answer
+DoneOnly c = (files : Files) (new : Option Files) (answer : Option Fault) (text : List ℕ) (before after : Counts)
+    → CanBeDone c files
+    → Answers (Some c) (Some files) new answer text → HasCauses answer before after → NoneRose before after
+    → IsDone answer

@@ -15,5 +15,6 @@ refusal_of refusal = fault.Schema refusal
 abbrev pub IsFailure : FileFault → Fault → Type 0
 IsFailure refusal fault.ReadFault = refusal ≡ file_faults.ReadFault
 IsFailure refusal fault.NoMemory = refusal ≡ file_faults.NoMemory
-IsFailure refusal (fault.File same) = (same ≡ refusal) × (refusal ≢ file_faults.ReadFault) × (refusal ≢ file_faults.NoMemory)
+IsFailure refusal (fault.File same) = (same ≡ refusal) × (refusal ≢ file_faults.ReadFault)
+    × (refusal ≢ file_faults.NoMemory)
 IsFailure refusal _ = ⊥

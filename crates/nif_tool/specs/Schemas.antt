@@ -3,6 +3,7 @@ use Rattle.std.specs.Prelude.{ℕ, ◌≤◌, ◌<◌, ◌^◌, List, length, So
 use Rattle.std.specs.declared.option.Option.{Option}
 use Rattle.std.specs.Option.{option_map}
 use Rattle.std.specs.FinMap.{get}
+use Rattle.nif_base.specs.Limits.{most_schema_bytes}
 use Rattle.nif_base.specs.Shelf.{Files}
 use Rattle.nif_text.specs.Tree.{Tree}
 use Rattle.nif_text.specs.Documents.{Written}
@@ -16,7 +17,7 @@ use Rattle.nif_tool.specs.Command.{SchemaName, Plain, Scene, Named}
 
 -- the bytes are those of a tree that declares this schema
 pub record Spells (bytes : List ℕ) (schema : Schema) : Type 0 where
-  pub within : length bytes ≤ limit
+  pub within : length bytes ≤ most_schema_bytes
   pub tree : Tree
   pub written : Written tree bytes
   pub declares : Declares tree schema
@@ -28,10 +29,10 @@ pub record Passes (bytes : List ℕ) (schema : Schema) : Type 0 where
 
 -- the schema is refused with this fault
 abbrev pub Refuses : List ℕ → SchemaFault → Type 0
-Refuses bytes faults.SchemaTooLong = limit < length bytes
+Refuses bytes faults.SchemaTooLong = most_schema_bytes < length bytes
 Refuses bytes (faults.HeaderRole rule) = (schema : Schema) × Spells bytes schema × RoleFault schema rule
 Refuses bytes faults.NoMemory = ⊥
-Refuses bytes fault = (length bytes ≤ limit) × IsRefused bytes fault
+Refuses bytes fault = (length bytes ≤ most_schema_bytes) × IsRefused bytes fault
 
 -- The bytes of a schema, if it is there: they are built in, or a file has them.
 abbrev pub schema_bytes : SchemaName → Files → Option (List ℕ)

@@ -17,7 +17,7 @@ use Rattle.nif_print.specs.Files.{summary_text}
 use Rattle.nif_tool.specs.Command.{SchemaName}
 use Rattle.nif_tool.specs.Meaning.{Copies, FileIs, Refused}
 use Rattle.nif_base.specs.Limits.{most_schema_bytes}
-use Rattle.nif_tool.specs.Schemas.{HasSchema, Passes, Refuses}
+use Rattle.nif_tool.specs.Schemas.{HasSchema, Passes, Refuses, told_bytes}
 use Rattle.nif_tool.specs.declared.report.Fault.{Fault}
 use Rattle.nif_tool.specs.declared.report.Fault.TheVariants as fault
 use Rattle.nif_tool.specs.declared.files.Accepted.{Accepted}
@@ -25,7 +25,8 @@ use Rattle.nif_tool.specs.declared.files.Accepted.{Accepted}
 -- what reading the text of a schema answers
 abbrev pub LoadsText : List ℕ → Files → Result (Vec ℕ Global) Fault → Type 0
 LoadsText name files (Ok v) = get files name ≡ Some v.items
-LoadsText name files (Err (fault.Schema schema_faults.SchemaTooLong)) = FileIs name files (λ bytes. most_schema_bytes < length bytes)
+LoadsText name files (Err (fault.Schema schema_faults.SchemaTooLong)) = FileIs name files
+    (λ bytes. most_schema_bytes < length bytes)
 LoadsText name files (Err fault.OpenFault) = ⊤
 LoadsText name files (Err fault.ReadFault) = ⊤
 LoadsText name files (Err fault.NoMemory) = ⊤
@@ -54,7 +55,8 @@ pub record IsLoaded (schema : Schema) (name : List ℕ) (files : Option Files) (
 -- what reading a file by a schema answers
 abbrev pub Loads : Schema → List ℕ → Option Files → Result GraphParts Fault → Type 0
 Loads schema name files (Ok parts) = IsLoaded schema name files parts
-Loads schema name files (Err (fault.File refusal)) = IfSome files (λ d. FileIs name d (λ bytes. FileFails schema bytes refusal))
+Loads schema name files (Err (fault.File refusal)) = IfSome files
+    (λ d. FileIs name d (λ bytes. FileFails schema bytes refusal))
 Loads schema name files (Err fault.OpenFault) = ⊤
 Loads schema name files (Err fault.ReadFault) = ⊤
 Loads schema name files (Err fault.NoMemory) = ⊤
@@ -64,6 +66,7 @@ Loads schema name files (Err _) = ⊥
 pub record IsAccepted (name : SchemaName) (file : List ℕ) (files : Option Files) (accepted : Accepted) : Type 0 where
   pub schema : IsSchema accepted.schema
   pub passes : IfSome files (λ d. HasSchema name d accepted.schema)
+  pub told : IfSome (told_bytes name files) (λ bytes. IsSomeAnd bytes (λ b. Passes b accepted.schema))
   pub loaded : IsLoaded accepted.schema file files accepted.parts
 
 -- what getting a schema and reading a file by it answers

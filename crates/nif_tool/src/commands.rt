@@ -5,7 +5,8 @@ ghost use Rattle.nif_tool.specs.Report.{status_of};
 ghost use Rattle.nif_tool.specs.Command.{command_of, Check, Copy};
 ghost use Rattle.nif_tool.specs.Command as spec_command;
 ghost use Rattle.nif_tool.specs.Words.{schema_name};
-ghost use Rattle.nif_tool.specs.Meaning.{files_of, Answers, CanBeDone, HasCauses, IsDone, NoneRose, Prints, RefusedFor, ReadFrom};
+ghost use Rattle.nif_tool.specs.Counts.{counts};
+ghost use Rattle.nif_tool.specs.Meaning.{files_of, Answers, CanBeDone, Causes, IsDone, NoneRose, Prints, RefusedFor, ReadFrom};
 
 use crate::files::{accept, copy};
 use crate::laws::done_only;
@@ -25,12 +26,15 @@ fn schema_command<S: Shelf, K: Sink>(
     out: &mut K,
 ) -> Option<Fault>
     ensures answer { (text : List ℕ) × K.grew out.old text out.new
-        × Prints (λ answer whole. Answers (Some (spec_command.Schema (schema_name schema.entry))) (files_of (S.desk shelf.old)) (files_of (S.desk shelf.new)) answer whole
-        × HasCauses answer (S.open_faults shelf.old) (S.open_faults shelf.new) (S.read_faults shelf.old) (S.read_faults shelf.new) (S.write_faults shelf.old) (S.write_faults shelf.new)) result text }
+        × Prints (λ answer whole. Answers (Some (spec_command.Schema (schema_name schema.entry)))
+        (files_of (S.desk shelf.old)) (files_of (S.desk shelf.new)) answer whole
+        × Causes S.open_faults S.read_faults S.write_faults shelf.old shelf.new answer) result text }
     ensures usage { result ≢ Some Fault.Usage }
     ensures print_cause { result ≡ Some Fault.PrintFault → Rose (K.write_faults out.old) (K.write_faults out.new) }
-    ensures read { ReadFrom (spec_command.Schema (schema_name schema.entry)) (files_of (S.desk shelf.old)) result (S.desk shelf.new) }
-    ensures refused { RefusedFor (spec_command.Schema (schema_name schema.entry)) (files_of (S.desk shelf.old)) result (S.refused shelf.new) }
+    ensures read { ReadFrom (spec_command.Schema (schema_name schema.entry)) (files_of (S.desk shelf.old)) result
+        (S.desk shelf.new) }
+    ensures refused { RefusedFor (spec_command.Schema (schema_name schema.entry)) (files_of (S.desk shelf.old)) result
+        (S.refused shelf.new) }
 {
     match get_schema(alloc, schema, shelf) {
         Ok(checked) => print_list(&checked, out),
@@ -47,12 +51,15 @@ fn check_command<S: Shelf, K: Sink>(
     out: &mut K,
 ) -> Option<Fault>
     ensures answer { (text : List ℕ) × K.grew out.old text out.new
-        × Prints (λ answer whole. Answers (Some (Check (schema_name schema.entry) file.now)) (files_of (S.desk shelf.old)) (files_of (S.desk shelf.new)) answer whole
-        × HasCauses answer (S.open_faults shelf.old) (S.open_faults shelf.new) (S.read_faults shelf.old) (S.read_faults shelf.new) (S.write_faults shelf.old) (S.write_faults shelf.new)) result text }
+        × Prints (λ answer whole. Answers (Some (Check (schema_name schema.entry) file.now))
+        (files_of (S.desk shelf.old)) (files_of (S.desk shelf.new)) answer whole
+        × Causes S.open_faults S.read_faults S.write_faults shelf.old shelf.new answer) result text }
     ensures usage { result ≢ Some Fault.Usage }
     ensures print_cause { result ≡ Some Fault.PrintFault → Rose (K.write_faults out.old) (K.write_faults out.new) }
-    ensures read { ReadFrom (Check (schema_name schema.entry) file.now) (files_of (S.desk shelf.old)) result (S.desk shelf.new) }
-    ensures refused { RefusedFor (Check (schema_name schema.entry) file.now) (files_of (S.desk shelf.old)) result (S.refused shelf.new) }
+    ensures read { ReadFrom (Check (schema_name schema.entry) file.now) (files_of (S.desk shelf.old)) result
+        (S.desk shelf.new) }
+    ensures refused { RefusedFor (Check (schema_name schema.entry) file.now) (files_of (S.desk shelf.old)) result
+        (S.refused shelf.new) }
 {
     match accept(alloc, schema, file, shelf) {
         Ok(accepted) => print_summary(&accepted.parts, out),
@@ -70,12 +77,15 @@ fn copy_command<S: Shelf, K: Sink>(
     out: &mut K,
 ) -> Option<Fault>
     ensures answer { (text : List ℕ) × K.grew out.old text out.new
-        × Prints (λ answer whole. Answers (Some (Copy (schema_name schema.entry) file.now to.now)) (files_of (S.desk shelf.old)) (files_of (S.desk shelf.new)) answer whole
-        × HasCauses answer (S.open_faults shelf.old) (S.open_faults shelf.new) (S.read_faults shelf.old) (S.read_faults shelf.new) (S.write_faults shelf.old) (S.write_faults shelf.new)) result text }
+        × Prints (λ answer whole. Answers (Some (Copy (schema_name schema.entry) file.now to.now))
+        (files_of (S.desk shelf.old)) (files_of (S.desk shelf.new)) answer whole
+        × Causes S.open_faults S.read_faults S.write_faults shelf.old shelf.new answer) result text }
     ensures usage { result ≢ Some Fault.Usage }
     ensures print_cause { result ≡ Some Fault.PrintFault → Rose (K.write_faults out.old) (K.write_faults out.new) }
-    ensures read { ReadFrom (Copy (schema_name schema.entry) file.now to.now) (files_of (S.desk shelf.old)) result (S.desk shelf.new) }
-    ensures refused { RefusedFor (Copy (schema_name schema.entry) file.now to.now) (files_of (S.desk shelf.old)) result (S.refused shelf.new) }
+    ensures read { ReadFrom (Copy (schema_name schema.entry) file.now to.now) (files_of (S.desk shelf.old)) result
+        (S.desk shelf.new) }
+    ensures refused { RefusedFor (Copy (schema_name schema.entry) file.now to.now) (files_of (S.desk shelf.old)) result
+        (S.refused shelf.new) }
 {
     match copy(alloc, schema, file, to, shelf) {
         Ok(accepted) => print_summary(&accepted.parts, out),
@@ -92,21 +102,26 @@ pub fn run<S: Shelf, K: Sink>(alloc: Global, words: &[String], shelf: &mut S, ou
     // the answer and what is printed are those of the words and the files; where printing failed, a prefix of that
     // was printed; and each fault of the shelf comes only where its count rose
     ensures answer { (text : List ℕ) × K.grew out.old text out.new
-        × Prints (λ answer whole. Answers (command_of words.now) (files_of (S.desk shelf.old)) (files_of (S.desk shelf.new)) answer whole
-        × HasCauses answer (S.open_faults shelf.old) (S.open_faults shelf.new) (S.read_faults shelf.old) (S.read_faults shelf.new) (S.write_faults shelf.old) (S.write_faults shelf.new)) result.fault text }
+        × Prints (λ answer whole. Answers (command_of words.now) (files_of (S.desk shelf.old))
+        (files_of (S.desk shelf.new)) answer whole
+        × Causes S.open_faults S.read_faults S.write_faults shelf.old shelf.new answer) result.fault text }
 
     // the words are no command exactly where the answer is Usage, but for a fault of printing
     ensures usage { result.fault ≡ Some Fault.Usage → command_of words.now ≡ None }
     ensures untouched { command_of words.now ≡ None → shelf.new ≡ shelf.old }
 
     // a fault of the outside comes on a file of the words at its turn
-    ensures print_cause { result.fault ≡ Some Fault.PrintFault → Rose (K.write_faults out.old) (K.write_faults out.new) }
-    ensures read { IfSome (command_of words.now) (λ c. ReadFrom c (files_of (S.desk shelf.old)) result.fault (S.desk shelf.new)) }
-    ensures refused { IfSome (command_of words.now) (λ c. RefusedFor c (files_of (S.desk shelf.old)) result.fault (S.refused shelf.new)) }
+    ensures print_cause { result.fault ≡ Some Fault.PrintFault
+        → Rose (K.write_faults out.old) (K.write_faults out.new) }
+    ensures read { IfSome (command_of words.now)
+        (λ c. ReadFrom c (files_of (S.desk shelf.old)) result.fault (S.desk shelf.new)) }
+    ensures refused { IfSome (command_of words.now)
+        (λ c. RefusedFor c (files_of (S.desk shelf.old)) result.fault (S.refused shelf.new)) }
 
     // a command that can be done is done, where no count of faults rose and memory suffices
     ensures complete { IsSomeAnd (command_of words.now) (λ c. IsSomeAnd (files_of (S.desk shelf.old)) (CanBeDone c))
-        → NoneRose (S.open_faults shelf.old) (S.open_faults shelf.new) (S.read_faults shelf.old) (S.read_faults shelf.new) (S.write_faults shelf.old) (S.write_faults shelf.new)
+        → NoneRose (counts S.open_faults S.read_faults S.write_faults shelf.old)
+        (counts S.open_faults S.read_faults S.write_faults shelf.new)
         → ¬ Rose (K.write_faults out.old) (K.write_faults out.new) → IsDone result.fault }
 
     ensures status { result.status ≡ status_of result.fault }

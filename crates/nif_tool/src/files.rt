@@ -6,9 +6,9 @@ ghost use Rattle.nif_file.specs.Files.{text_of, IsFile};
 ghost use Rattle.nif_file.specs.PartsSay.{SaysFile};
 ghost use Rattle.nif_tool.specs.Command.{Check, Copy};
 ghost use Rattle.nif_tool.specs.Words.{schema_name};
-ghost use Rattle.nif_tool.specs.Meaning.{files_of, CanAnswer, CanFail, HasCauses, RefusedFor, ReadFrom, WhereTold};
+ghost use Rattle.nif_tool.specs.Meaning.{files_of, CanAnswer, CanFail, Causes, RefusedFor, ReadFrom, WhereTold};
 ghost use Rattle.nif_tool.specs.Refusals.{IsFailure};
-ghost use Rattle.nif_tool.specs.Steps.{AcceptsBy, CopiesBy, Loads, Stores};
+ghost use Rattle.nif_tool.specs.Steps.{AcceptsBy, CopiesBy, IsAccepted, Loads, Stores};
 
 use crate::report::Fault;
 use crate::schemas::get_schema;
@@ -51,9 +51,11 @@ fn load<S: Shelf>(
     ensures answers { IfErr result CanFail }
     ensures faults { IfErr result (λ f. (f ≢ Fault.Usage) × (f ≢ Fault.WriteFault) × (f ≢ Fault.PrintFault)) }
     ensures files { files_of (S.desk shelf.new) ≡ files_of (S.desk shelf.old) }
-    ensures causes { HasCauses (result_err result) (S.open_faults shelf.old) (S.open_faults shelf.new) (S.read_faults shelf.old) (S.read_faults shelf.new) (S.write_faults shelf.old) (S.write_faults shelf.new) }
-    ensures input { result_err result ≡ Some Fault.ReadFault → IfSome (S.desk shelf.new) (λ d. d.input ≡ Some name.now) }
-    ensures refused { result_err result ≡ Some Fault.OpenFault → IfSome (S.refused shelf.new) (λ r. (r.kind ≡ Kind.Input) × (r.name ≡ name.now)) }
+    ensures causes { Causes S.open_faults S.read_faults S.write_faults shelf.old shelf.new (result_err result) }
+    ensures input { result_err result ≡ Some Fault.ReadFault
+        → IfSome (S.desk shelf.new) (λ d. d.input ≡ Some name.now) }
+    ensures refused { result_err result ≡ Some Fault.OpenFault
+        → IfSome (S.refused shelf.new) (λ r. (r.kind ≡ Kind.Input) × (r.name ≡ name.now)) }
 {
     match shelf.open_input(name) {
         Ok(()) => {}
@@ -76,9 +78,11 @@ pub fn accept<S: Shelf>(
     ensures answers { IfErr result CanFail }
     ensures faults { IfErr result (λ f. (f ≢ Fault.Usage) × (f ≢ Fault.WriteFault) × (f ≢ Fault.PrintFault)) }
     ensures files { files_of (S.desk shelf.new) ≡ files_of (S.desk shelf.old) }
-    ensures causes { HasCauses (result_err result) (S.open_faults shelf.old) (S.open_faults shelf.new) (S.read_faults shelf.old) (S.read_faults shelf.new) (S.write_faults shelf.old) (S.write_faults shelf.new) }
-    ensures read { ReadFrom (Check (schema_name schema.entry) file.now) (files_of (S.desk shelf.old)) (result_err result) (S.desk shelf.new) }
-    ensures refused { RefusedFor (Check (schema_name schema.entry) file.now) (files_of (S.desk shelf.old)) (result_err result) (S.refused shelf.new) }
+    ensures causes { Causes S.open_faults S.read_faults S.write_faults shelf.old shelf.new (result_err result) }
+    ensures read { ReadFrom (Check (schema_name schema.entry) file.now) (files_of (S.desk shelf.old))
+        (result_err result) (S.desk shelf.new) }
+    ensures refused { RefusedFor (Check (schema_name schema.entry) file.now) (files_of (S.desk shelf.old))
+        (result_err result) (S.refused shelf.new) }
 {
     let checked = match get_schema(alloc, schema, shelf) {
         Ok(checked) => checked,
@@ -100,12 +104,15 @@ fn store<S: Shelf>(
     name: &str,
     shelf: &mut S,
 ) -> Result<(), Fault>
-    requires { (whole : File) × SaysFile schema.now parts.now whole × IsFile schema.now whole (text_of schema.now whole) }
+    requires { (whole : File) × SaysFile schema.now parts.now whole
+        × IsFile schema.now whole (text_of schema.now whole) }
     ensures faults { IfErr result (λ f. (f ≡ Fault.OpenFault) ⊎ (f ≡ Fault.WriteFault)) }
     ensures stores { (whole : File) → SaysFile schema.now parts.now whole
-        → WhereTold (files_of (S.desk shelf.old)) (files_of (S.desk shelf.new)) (λ d e. Stores name.now (text_of schema.now whole) d e result) }
-    ensures causes { HasCauses (result_err result) (S.open_faults shelf.old) (S.open_faults shelf.new) (S.read_faults shelf.old) (S.read_faults shelf.new) (S.write_faults shelf.old) (S.write_faults shelf.new) }
-    ensures refused { result_err result ≡ Some Fault.OpenFault → IfSome (S.refused shelf.new) (λ r. (r.kind ≡ Kind.Output) × (r.name ≡ name.now)) }
+        → WhereTold (files_of (S.desk shelf.old)) (files_of (S.desk shelf.new))
+        (λ d e. Stores name.now (text_of schema.now whole) d e result) }
+    ensures causes { Causes S.open_faults S.read_faults S.write_faults shelf.old shelf.new (result_err result) }
+    ensures refused { result_err result ≡ Some Fault.OpenFault
+        → IfSome (S.refused shelf.new) (λ r. (r.kind ≡ Kind.Output) × (r.name ≡ name.now)) }
 {
     match shelf.create_output(name) {
         Ok(()) => {}
@@ -125,12 +132,16 @@ pub fn copy<S: Shelf>(
     to: &str,
     shelf: &mut S,
 ) -> Result<Accepted, Fault>
-    ensures copies { WhereTold (files_of (S.desk shelf.old)) (files_of (S.desk shelf.new)) (λ d e. CopiesBy (schema_name schema.entry) file.now to.now d e result) }
+    ensures copies { WhereTold (files_of (S.desk shelf.old)) (files_of (S.desk shelf.new))
+        (λ d e. CopiesBy (schema_name schema.entry) file.now to.now d e result) }
+    ensures accepted { IfOk result (IsAccepted (schema_name schema.entry) file.now (files_of (S.desk shelf.old))) }
     ensures answers { CanAnswer (Copy (schema_name schema.entry) file.now to.now) (result_err result) }
     ensures faults { IfErr result (λ f. (f ≢ Fault.Usage) × (f ≢ Fault.PrintFault)) }
-    ensures causes { HasCauses (result_err result) (S.open_faults shelf.old) (S.open_faults shelf.new) (S.read_faults shelf.old) (S.read_faults shelf.new) (S.write_faults shelf.old) (S.write_faults shelf.new) }
-    ensures read { ReadFrom (Copy (schema_name schema.entry) file.now to.now) (files_of (S.desk shelf.old)) (result_err result) (S.desk shelf.new) }
-    ensures refused { RefusedFor (Copy (schema_name schema.entry) file.now to.now) (files_of (S.desk shelf.old)) (result_err result) (S.refused shelf.new) }
+    ensures causes { Causes S.open_faults S.read_faults S.write_faults shelf.old shelf.new (result_err result) }
+    ensures read { ReadFrom (Copy (schema_name schema.entry) file.now to.now) (files_of (S.desk shelf.old))
+        (result_err result) (S.desk shelf.new) }
+    ensures refused { RefusedFor (Copy (schema_name schema.entry) file.now to.now) (files_of (S.desk shelf.old))
+        (result_err result) (S.refused shelf.new) }
 {
     let accepted = match accept(alloc, schema, file, shelf) {
         Ok(accepted) => accepted,

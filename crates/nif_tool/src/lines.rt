@@ -61,7 +61,8 @@ fn write_line<K: Sink>(fault: &Fault, out: &mut K) -> Result<(), WriteFault>
 /// Prints the line of a refusal, and answers the refusal; where that fails, a prefix of the line was printed.
 pub fn refuse<K: Sink>(fault: Fault, out: &mut K) -> Option<Fault>
     requires { fault ≢ Fault.PrintFault }
-    ensures printed { (text : List ℕ) × K.grew out.old text out.new × Prints (λ answer whole. (answer ≡ Some fault) × (whole ≡ line_of fault)) result text }
+    ensures printed { (text : List ℕ) × K.grew out.old text out.new
+        × Prints (λ answer whole. (answer ≡ Some fault) × (whole ≡ line_of fault)) result text }
     ensures cause { result ≡ Some Fault.PrintFault → Rose (K.write_faults out.old) (K.write_faults out.new) }
 {
     match write_line(&fault, out) {

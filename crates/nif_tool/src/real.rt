@@ -44,7 +44,8 @@ impl<R: Files> Source for RealShelf<'_, R> {
 
     ghost read_faults = { λ s. s.read_faults };
 
-    ghost still = { λ a b. Stayed (untold a.read_faults a.write_faults a.open_faults) (untold b.read_faults b.write_faults b.open_faults) };
+    ghost still = { λ a b. Stayed (untold a.read_faults a.write_faults a.open_faults)
+        (untold b.read_faults b.write_faults b.open_faults) };
 
     ghost still_same = { λ a. stayed_same _ };
 
@@ -71,7 +72,8 @@ impl<R: Files> Sink for RealShelf<'_, R> {
 
     ghost write_faults = { λ s. s.write_faults };
 
-    ghost grew = { λ a x b. Grew (untold a.read_faults a.write_faults a.open_faults) x (untold b.read_faults b.write_faults b.open_faults) };
+    ghost grew = { λ a x b. Grew (untold a.read_faults a.write_faults a.open_faults) x
+        (untold b.read_faults b.write_faults b.open_faults) };
 
     ghost grew_same = { λ a. grew_same _ };
 

@@ -8,7 +8,7 @@ ghost use Rattle.nif_tool.specs.Refusals.{refusal_of};
 ghost use Rattle.nif_tool.specs.Words.{schema_name};
 ghost use Rattle.nif_base.specs.Limits.{most_schema_bytes};
 ghost use Rattle.nif_tool.specs.Schemas.{told_bytes};
-ghost use Rattle.nif_tool.specs.Meaning.{files_of, CanLack, HasCauses, RefusedFor, ReadFrom};
+ghost use Rattle.nif_tool.specs.Meaning.{files_of, CanLack, Causes, RefusedFor, ReadFrom};
 ghost use Rattle.nif_tool.specs.Steps.{LoadsText, Understands, Gets};
 
 use crate::report::Fault;
@@ -28,9 +28,11 @@ fn load_text<S: Shelf>(alloc: Global, file: &str, shelf: &mut S) -> Result<Vec<u
     ensures answers { IfErr result (CanLack (spec_command.Named file.now)) }
     ensures faults { IfErr result (λ f. (f ≢ Fault.Usage) × (f ≢ Fault.PrintFault)) }
     ensures files { files_of (S.desk shelf.new) ≡ files_of (S.desk shelf.old) }
-    ensures causes { HasCauses (result_err result) (S.open_faults shelf.old) (S.open_faults shelf.new) (S.read_faults shelf.old) (S.read_faults shelf.new) (S.write_faults shelf.old) (S.write_faults shelf.new) }
-    ensures input { result_err result ≡ Some Fault.ReadFault → IfSome (S.desk shelf.new) (λ d. d.input ≡ Some file.now) }
-    ensures refused { result_err result ≡ Some Fault.OpenFault → IfSome (S.refused shelf.new) (λ r. (r.kind ≡ Kind.Input) × (r.name ≡ file.now)) }
+    ensures causes { Causes S.open_faults S.read_faults S.write_faults shelf.old shelf.new (result_err result) }
+    ensures input { result_err result ≡ Some Fault.ReadFault
+        → IfSome (S.desk shelf.new) (λ d. d.input ≡ Some file.now) }
+    ensures refused { result_err result ≡ Some Fault.OpenFault
+        → IfSome (S.refused shelf.new) (λ r. (r.kind ≡ Kind.Input) × (r.name ≡ file.now)) }
 {
     match shelf.open_input(file) {
         Ok(()) => {}
@@ -80,14 +82,17 @@ pub fn get_schema<S: Shelf>(
     schema: SchemaName<'_>,
     shelf: &mut S,
 ) -> Result<Checked, Fault>
-    ensures gets { IfSome (told_bytes (schema_name schema.entry) (files_of (S.desk shelf.old))) (λ bytes. Gets bytes result) }
+    ensures gets { IfSome (told_bytes (schema_name schema.entry) (files_of (S.desk shelf.old)))
+        (λ bytes. Gets bytes result) }
     ensures schema { IfOk result IsSchema }
     ensures answers { IfErr result (CanLack (schema_name schema.entry)) }
     ensures faults { IfErr result (λ f. (f ≢ Fault.Usage) × (f ≢ Fault.PrintFault)) }
     ensures files { files_of (S.desk shelf.new) ≡ files_of (S.desk shelf.old) }
-    ensures causes { HasCauses (result_err result) (S.open_faults shelf.old) (S.open_faults shelf.new) (S.read_faults shelf.old) (S.read_faults shelf.new) (S.write_faults shelf.old) (S.write_faults shelf.new) }
-    ensures read { ReadFrom (spec_command.Schema (schema_name schema.entry)) (files_of (S.desk shelf.old)) (result_err result) (S.desk shelf.new) }
-    ensures refused { RefusedFor (spec_command.Schema (schema_name schema.entry)) (files_of (S.desk shelf.old)) (result_err result) (S.refused shelf.new) }
+    ensures causes { Causes S.open_faults S.read_faults S.write_faults shelf.old shelf.new (result_err result) }
+    ensures read { ReadFrom (spec_command.Schema (schema_name schema.entry)) (files_of (S.desk shelf.old))
+        (result_err result) (S.desk shelf.new) }
+    ensures refused { RefusedFor (spec_command.Schema (schema_name schema.entry)) (files_of (S.desk shelf.old))
+        (result_err result) (S.refused shelf.new) }
 {
     match schema {
         SchemaName::Plain => understand(alloc, PLAIN),

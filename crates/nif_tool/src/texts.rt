@@ -30,7 +30,8 @@ fn write_list<K: Sink>(checked: &Checked, out: &mut K) -> Result<(), WriteFault>
 
 /// Prints the listing of a schema; where that fails, a prefix of it was printed.
 pub fn print_list<K: Sink>(checked: &Checked, out: &mut K) -> Option<Fault>
-    ensures printed { (text : List ℕ) × K.grew out.old text out.new × Prints (λ answer whole. (answer ≡ None) × IsListing checked.now whole) result text }
+    ensures printed { (text : List ℕ) × K.grew out.old text out.new
+        × Prints (λ answer whole. (answer ≡ None) × IsListing checked.now whole) result text }
     ensures cause { result ≡ Some Fault.PrintFault → Rose (K.write_faults out.old) (K.write_faults out.new) }
 {
     match write_list(checked, out) {
@@ -62,7 +63,8 @@ fn write_summary<K: Sink>(parts: &GraphParts, out: &mut K) -> Result<(), WriteFa
 
 /// Prints the line of a file; where that fails, a prefix of it was printed. It takes no memory.
 pub fn print_summary<K: Sink>(parts: &GraphParts, out: &mut K) -> Option<Fault>
-    ensures printed { (text : List ℕ) × K.grew out.old text out.new × Prints (λ answer whole. (answer ≡ None) × (whole ≡ parts_summary parts.now)) result text }
+    ensures printed { (text : List ℕ) × K.grew out.old text out.new
+        × Prints (λ answer whole. (answer ≡ None) × (whole ≡ parts_summary parts.now)) result text }
     ensures cause { result ≡ Some Fault.PrintFault → Rose (K.write_faults out.old) (K.write_faults out.new) }
 {
     match write_summary(parts, out) {

@@ -10,7 +10,7 @@ returns-in-Ok-clause-answer g c =
       printed.0,
       printed.1,
       prints_weaker c.print_summary.result printed.0 (λ answer text is.
-          check_done (schema_name c.args.schema) c.args.file.now (files_of (desk c.args.shelf.now)) (files_of (desk c.accept.new.shelf)) c.in-Ok.accepted _ _ _ _ _ _ answer text
+          check_done (schema_name c.args.schema) c.args.file.now (files_of (desk c.args.shelf.now)) (files_of (desk c.accept.new.shelf)) c.in-Ok.accepted _ _ answer text
           c.in-Ok.ensures.accepts c.in-Ok.ensures.files c.in-Ok.ensures.causes is) printed.2,
     )
 
@@ -22,6 +22,6 @@ returns-in-Err-clause-answer g c =
       refused.0,
       refused.1,
       prints_weaker c.refuse.result refused.0 (λ answer text is.
-          check_refused (schema_name c.args.schema) c.args.file.now (files_of (desk c.args.shelf.now)) (files_of (desk c.accept.new.shelf)) c.in-Err.fault _ _ _ _ _ _ answer text
+          check_refused (schema_name c.args.schema) c.args.file.now (files_of (desk c.args.shelf.now)) (files_of (desk c.accept.new.shelf)) c.in-Err.fault _ _ answer text
           told.answers told.accepts told.files told.causes is) refused.2,
     )

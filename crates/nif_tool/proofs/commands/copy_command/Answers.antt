@@ -10,8 +10,8 @@ returns-in-Ok-clause-answer g c =
       printed.0,
       printed.1,
       prints_weaker c.print_summary.result printed.0 (λ answer text is.
-          copy_done (schema_name c.args.schema) c.args.file.now c.args.to.now (files_of (desk c.args.shelf.now)) (files_of (desk c.copy.new.shelf)) c.in-Ok.accepted _ _ _ _ _ _ answer text
-          c.in-Ok.ensures.copies c.in-Ok.ensures.causes is) printed.2,
+          copy_done (schema_name c.args.schema) c.args.file.now c.args.to.now (files_of (desk c.args.shelf.now)) (files_of (desk c.copy.new.shelf)) c.in-Ok.accepted _ _ answer text
+          c.in-Ok.ensures.copies c.in-Ok.ensures.accepted c.in-Ok.ensures.causes is) printed.2,
     )
 
 pub returns-in-Err-clause-answer : goal.returns-in-Err-clause-answer
@@ -22,6 +22,6 @@ returns-in-Err-clause-answer g c =
       refused.0,
       refused.1,
       prints_weaker c.refuse.result refused.0 (λ answer text is.
-          copy_refused (schema_name c.args.schema) c.args.file.now c.args.to.now (files_of (desk c.args.shelf.now)) (files_of (desk c.copy.new.shelf)) c.in-Err.fault _ _ _ _ _ _ answer text
+          copy_refused (schema_name c.args.schema) c.args.file.now c.args.to.now (files_of (desk c.args.shelf.now)) (files_of (desk c.copy.new.shelf)) c.in-Err.fault _ _ answer text
           told.answers told.copies told.causes is) refused.2,
     )

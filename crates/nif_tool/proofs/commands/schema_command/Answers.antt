@@ -10,8 +10,8 @@ returns-in-Ok-clause-answer g c =
       printed.0,
       printed.1,
       prints_weaker c.print_list.result printed.0 (λ answer text is.
-          schema_listed (schema_name c.args.schema) (files_of (desk c.args.shelf.now)) (files_of (desk c.get_schema.new.shelf)) c.in-Ok.checked _ _ _ _ _ _ answer text
-          c.in-Ok.ensures.gets c.in-Ok.ensures.files c.in-Ok.ensures.causes is) printed.2,
+          schema_listed (schema_name c.args.schema) (files_of (desk c.args.shelf.now)) (files_of (desk c.get_schema.new.shelf)) c.in-Ok.checked _ _ answer text
+          c.in-Ok.ensures.gets c.in-Ok.ensures.schema c.in-Ok.ensures.files c.in-Ok.ensures.causes is) printed.2,
     )
 
 pub returns-in-Err-clause-answer : goal.returns-in-Err-clause-answer
@@ -22,6 +22,6 @@ returns-in-Err-clause-answer g c =
       refused.0,
       refused.1,
       prints_weaker c.refuse.result refused.0 (λ answer text is.
-          schema_refused (schema_name c.args.schema) (files_of (desk c.args.shelf.now)) (files_of (desk c.get_schema.new.shelf)) c.in-Err.fault _ _ _ _ _ _ answer text
+          schema_refused (schema_name c.args.schema) (files_of (desk c.args.shelf.now)) (files_of (desk c.get_schema.new.shelf)) c.in-Err.fault _ _ answer text
           told.answers told.gets told.files told.causes is) refused.2,
     )
