@@ -10,7 +10,7 @@ use Rattle.nif_schema.specs.Roles.{Roles}
 use Rattle.nif_schema.specs.declared.contexts.Context as code
 use Rattle.nif_region.specs.Contents.{find, AreApart}
 use Rattle.nif_stream.specs.declared.takers.Taker.{Taker}
-use Rattle.nif_stream.specs.Taking.{Takes, source_of, place_of, left_of}
+use Rattle.nif_stream.specs.Taking.{Takes, source_of, place_of, left_of, bytes_of}
 use Rattle.nif_stream.specs.TakerLaws.{takes_joined}
 use Rattle.nif_layout.specs.Context.{Context}
 use Rattle.nif_layout.specs.Earlier.{Env}
@@ -57,6 +57,12 @@ header_line : (S : Schema) (members : Members) → IsHeader S (node.Group member
 header_line S members is =
     let e : is.members ≡ members = same_members is.members members (sym is.group) in
     subst (λ (m : Members). IsHeaderLine S m × (types_fault (head_of S m) ≡ None)) e (is.each, is.types)
+
+-- where nothing is left behind what is held, nothing is left
+source_end : (held : List ℕ) (o : Option (List ℕ)) → IsAtEnd (prepended held o) → IsAtEnd o
+source_end held None end = tt
+source_end [] (Some rest) end = end
+source_end (b ∷ held) (Some rest) end = absurd (cc)
 
 module _ {T : Type 0} (left : T → Option (List ℕ)) (still : T → T → Type 0) (faults : T → ℕ) (S : Schema) where
   -- there is no header
@@ -148,8 +154,8 @@ module _ {T : Type 0} (left : T → Option (List ℕ)) (still : T → T → Type
 
       -- the file was read
       pub has_file : (result : GraphParts) → before.trees ≡ [] → result.store ≡ after → after.building ≡ None → result.header ≡ header.tree → result.places ≡ header.places → result.context ≡ header.context → result.blocks ≡ parts
-          → result.footer ≡ footer → result.nodes ≡ now → result.bytes ≡ place_of new → HasFile S (left_of left old) result
-      has_file result none store building head places context blocks foot count bytes = record { file = it; says = says; is = is_file; told = told; holds = holds }
+          → result.footer ≡ footer → result.nodes ≡ now → result.bytes ≡ place_of new → HasFile S (left_of left old) (left (source_of new)) result
+      has_file result none store building head places context blocks foot count bytes = record { file = it; says = says; is = is_file; told = told; end = source_end (bytes_of new.held) (left (source_of new)) r.end; holds = holds }
         where
           found_header : find after.trees header.tree.run.key ≡ Some (node.Group h.members)
           found_header = ap (λ trees. find trees header.tree.run.key) r.trees ∙ find_kept between.trees (block_trees parts r.blocks ++ (footer.run.key, r.footer) ∷ []) header.tree.run.key (node.Group h.members) h.found

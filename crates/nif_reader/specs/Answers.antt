@@ -2,7 +2,7 @@
 use Rattle.std.specs.Prelude.{ℕ, ◌≡◌, ◌≢◌, ◌+◌, ◌≤◌, ⊤, List, [], ◌∷◌, ◌++◌, length, None, Ok, Err, IfSome}
 use Rattle.std.specs.declared.option.Option.{Option}
 use Rattle.std.specs.declared.result.Result.{Result}
-use Rattle.nif_base.specs.Outside.{Rose}
+use Rattle.nif_base.specs.Outside.{Rose, IsAtEnd}
 use Rattle.nif_base.specs.File.{File}
 use Rattle.nif_schema.specs.Schema.{Schema}
 use Rattle.nif_region.specs.Contents.{AreApart}
@@ -22,12 +22,13 @@ pub record HoldsFile (parts : GraphParts) (F : File) : Type 0 where
   pub apart : AreApart parts.store.trees
   pub building : parts.store.building ≡ None
 
--- The parts say a file, which the bytes spell where they are told.
-pub record HasFile (S : Schema) (bytes : Option (List ℕ)) (parts : GraphParts) : Type 0 where
+-- The parts say a file, which the bytes spell where they are told, and the source is at its end.
+pub record HasFile (S : Schema) (bytes rest : Option (List ℕ)) (parts : GraphParts) : Type 0 where
   pub file : File
   pub says : SaysFile S parts file
   pub is : IsFile S file (text_of S file)
   pub told : IfSome bytes (λ b. b ≡ text_of S file)
+  pub end : IsAtEnd rest
   pub holds : HoldsFile parts file
 
 -- The bytes have this first fault, and at most 4,096 behind those that show it are gone.
@@ -43,13 +44,13 @@ pub record HasNoFile {T : Type 0} (left : T → Option (List ℕ)) (faults : T �
 
 -- What the reader answers of the bytes that a taker has still to give, from their first on.
 abbrev pub GetsFile : {T : Type 0} → (T → Option (List ℕ)) → (T → ℕ) → Schema → Taker T → Taker T → Result GraphParts FileFault → Type 0
-GetsFile left faults S old new (Ok parts) = HasFile S (left_of left old) parts
+GetsFile left faults S old new (Ok parts) = HasFile S (left_of left old) (left (source_of new)) parts
 GetsFile left faults S old new (Err fault) = HasNoFile left faults S old new fault
 
--- A file is read, or it has its first fault, where its bytes are told; a fault of a read comes only where their count
+-- A file is read to the end of its source, or it has its first fault, where its bytes are told; a fault of a read comes only where their count
 -- rose.
 abbrev pub ReadsFile : {T : Type 0} → (T → Option (List ℕ)) → (T → ℕ) → Schema → T → T → Result GraphParts FileFault → Type 0
-ReadsFile left faults S old new (Ok parts) = HasFile S (left old) parts
+ReadsFile left faults S old new (Ok parts) = HasFile S (left old) (left new) parts
 ReadsFile left faults S old new (Err file.ReadFault) = Rose (faults old) (faults new)
 ReadsFile left faults S old new (Err file.NoMemory) = ⊤
 ReadsFile left faults S old new (Err fault) = IfSome (left old) (HasFault S fault (left new))
