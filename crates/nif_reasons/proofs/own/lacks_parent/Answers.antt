@@ -1,7 +1,7 @@
 use Rattle.std.proofs.Common.{sym}
 use Rattle.nif_schema.specs.Declaration.{declaration}
-use Rattle.nif_reasons.proofs.JumpLemmas.{lacks-none, lacks-found, lacks-lost}
-use Rattle.nif_reasons.proofs.jumps.lacks_parent.Goals as goal
+use Rattle.nif_reasons.proofs.ParentLemmas.{lacks-none, lacks-found, lacks-lost}
+use Rattle.nif_reasons.proofs.own.lacks_parent.Goals as goal
 
 pub returns-in_default : goal.returns-in_default
 returns-in_default c = sym (lacks-none c.args.schema.now c.args.number (declaration c.decl.result.now) c.decl.ensures (sym c.in_default.ensures))
