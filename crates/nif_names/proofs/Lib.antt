@@ -1,3 +1,4 @@
 pub mod MarkLemmas
-pub mod ShapeLemmas
+pub mod PlaceLemmas
+mod ShapeLemmas
 pub mod TableLemmas

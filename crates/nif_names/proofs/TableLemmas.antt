@@ -1,5 +1,5 @@
 -- Tables of names.
-use Rattle.std.proofs.Common.{◌≡◌, ℕ, suc, Bool, true, false, cond, ◌⊎◌, ◌||◌, ltb, List, [], ◌∷◌, ◌++◌, length, map, get_or, set, Option, Some, None, position, bytes_eq, refl, sym, ap, subst, ◌∙◌, true≢false, inl, inr, arith}
+use Rattle.std.proofs.Common.{◌≡◌, ℕ, suc, Bool, true, false, cond, ◌⊎◌, ◌||◌, ltb, List, [], ◌∷◌, ◌++◌, length, get_or, set, Option, Some, None, position, bytes_eq, refl, sym, ap, subst, ◌∙◌, true≢false, inl, inr, arith}
 use Rattle.std.specs.List.{list_any, position_or_len}
 use Rattle.std.specs.Option.{option_map}
 use Rattle.std.proofs.lemmas.Grind.{common_steps}
@@ -38,58 +38,58 @@ position-cases {X} p x xs i e = by (p x) refl (position p xs) refl (sym (positio
     by false h None q f = absurd (cc)
     by false h (Some j) q f = inr (h, j, (let z : suc j ≡ i = cc in sym z), q)
 
-module _ {K : Type 0} (bytes : K → List ℕ) (name : List ℕ) where
+module _ (name : List ℕ) where
   -- the stack at the place of a name
-  pub stack-at : (d : Stack) (keys : List K) (stacks : List Stack) (i : ℕ) → position (λ k. bytes_eq name (bytes k)) keys ≡ Some i
-      → length keys ≡ length stacks → stack_of name (map bytes keys) stacks ≡ get_or stacks i d
+  pub stack-at : (d : Stack) (keys : List (List ℕ)) (stacks : List Stack) (i : ℕ) → position (bytes_eq name) keys ≡ Some i
+      → length keys ≡ length stacks → stack_of name keys stacks ≡ get_or stacks i d
   stack-at d [] stacks i e same = absurd (cc)
   stack-at d (k ∷ keys) [] i e same = absurd (omega arith)
   stack-at d (k ∷ keys) (s ∷ stacks) i e same =
-      elim (position-cases (λ x. bytes_eq name (bytes x)) k keys i e) [
-        | inl (hit, zero_is) ↦ ap (λ b. cond b s (stack_of name (map bytes keys) stacks)) hit ∙ sym (ap (λ n. get_or (s ∷ stacks) n d) zero_is)
+      elim (position-cases (bytes_eq name) k keys i e) [
+        | inl (hit, zero_is) ↦ ap (λ b. cond b s (stack_of name keys stacks)) hit ∙ sym (ap (λ n. get_or (s ∷ stacks) n d) zero_is)
         | inr (miss, j, is, rest) ↦
-            ap (λ b. cond b s (stack_of name (map bytes keys) stacks)) miss
+            ap (λ b. cond b s (stack_of name keys stacks)) miss
             ∙ stack-at d keys stacks j rest (omega arith)
             ∙ sym (ap (λ n. get_or (s ∷ stacks) n d) is)
       ]
 
   -- another stack at the place of a name
-  pub stack-set : (other : List ℕ) (new : Stack) (keys : List K) (stacks : List Stack) (i : ℕ) → position (λ k. bytes_eq name (bytes k)) keys ≡ Some i
+  pub stack-set : (other : List ℕ) (new : Stack) (keys : List (List ℕ)) (stacks : List Stack) (i : ℕ) → position (bytes_eq name) keys ≡ Some i
       → length keys ≡ length stacks
-      → stack_of other (map bytes keys) (set stacks i new) ≡ cond (bytes_eq other name) new (stack_of other (map bytes keys) stacks)
+      → stack_of other keys (set stacks i new) ≡ cond (bytes_eq other name) new (stack_of other keys stacks)
   stack-set other new [] stacks i e same = absurd (cc)
   stack-set other new (k ∷ keys) [] i e same = absurd (omega arith)
   stack-set other new (k ∷ keys) (s ∷ stacks) i e same =
-      elim (position-cases (λ x. bytes_eq name (bytes x)) k keys i e) [
+      elim (position-cases (bytes_eq name) k keys i e) [
         | inl (hit, zero_is) ↦
-            ap (λ n. stack_of other (map bytes (k ∷ keys)) (set (s ∷ stacks) n new)) zero_is ∙ here (bytes_eq other name) hit
+            ap (λ n. stack_of other ((k ∷ keys)) (set (s ∷ stacks) n new)) zero_is ∙ here (bytes_eq other name) hit
         | inr (miss, j, is, rest) ↦
-            ap (λ n. stack_of other (map bytes (k ∷ keys)) (set (s ∷ stacks) n new)) is
-            ∙ later (bytes_eq other (bytes k)) refl miss (stack-set other new keys stacks j rest (omega arith))
+            ap (λ n. stack_of other ((k ∷ keys)) (set (s ∷ stacks) n new)) is
+            ∙ later (bytes_eq other k) refl miss (stack-set other new keys stacks j rest (omega arith))
       ]
     where
-      here : (b : Bool) → bytes_eq name (bytes k) ≡ true
-          → cond (bytes_eq other (bytes k)) new (stack_of other (map bytes keys) stacks)
-          ≡ cond (bytes_eq other name) new (cond (bytes_eq other (bytes k)) s (stack_of other (map bytes keys) stacks))
+      here : (b : Bool) → bytes_eq name k ≡ true
+          → cond (bytes_eq other k) new (stack_of other keys stacks)
+          ≡ cond (bytes_eq other name) new (cond (bytes_eq other k) s (stack_of other keys stacks))
       here _ hit =
-          let one : name ≡ bytes k = (bytes_eq-Decides name (bytes k)).0 hit in
-          ap (λ x. cond (bytes_eq other x) new (stack_of other (map bytes keys) stacks)) (sym one)
-          ∙ twice (bytes_eq other name) ∙ ap (λ x. cond (bytes_eq other name) new (cond (bytes_eq other x) s (stack_of other (map bytes keys) stacks))) one
+          let one : name ≡ k = (bytes_eq-Decides name k).0 hit in
+          ap (λ x. cond (bytes_eq other x) new (stack_of other keys stacks)) (sym one)
+          ∙ twice (bytes_eq other name) ∙ ap (λ x. cond (bytes_eq other name) new (cond (bytes_eq other x) s (stack_of other keys stacks))) one
         where
-          twice : (b : Bool) → cond b new (stack_of other (map bytes keys) stacks) ≡ cond b new (cond b s (stack_of other (map bytes keys) stacks))
+          twice : (b : Bool) → cond b new (stack_of other keys stacks) ≡ cond b new (cond b s (stack_of other keys stacks))
           twice true = refl
           twice false = refl
 
-      later : (b : Bool) → bytes_eq other (bytes k) ≡ b → bytes_eq name (bytes k) ≡ false → {tail : Stack}
-          → tail ≡ cond (bytes_eq other name) new (stack_of other (map bytes keys) stacks)
-          → cond (bytes_eq other (bytes k)) s tail
-          ≡ cond (bytes_eq other name) new (cond (bytes_eq other (bytes k)) s (stack_of other (map bytes keys) stacks))
+      later : (b : Bool) → bytes_eq other k ≡ b → bytes_eq name k ≡ false → {tail : Stack}
+          → tail ≡ cond (bytes_eq other name) new (stack_of other keys stacks)
+          → cond (bytes_eq other k) s tail
+          ≡ cond (bytes_eq other name) new (cond (bytes_eq other k) s (stack_of other keys stacks))
       later true h miss {tail} t =
-          let apart = differ name other (bytes k) miss h in
-          ap (λ b. cond b s tail) h ∙ sym (ap (λ b. cond b new (cond (bytes_eq other (bytes k)) s (stack_of other (map bytes keys) stacks))) apart
-          ∙ ap (λ b. cond b s (stack_of other (map bytes keys) stacks)) h)
+          let apart = differ name other k miss h in
+          ap (λ b. cond b s tail) h ∙ sym (ap (λ b. cond b new (cond (bytes_eq other k) s (stack_of other keys stacks))) apart
+          ∙ ap (λ b. cond b s (stack_of other keys stacks)) h)
       later false h miss {tail} t =
-          ap (λ b. cond b s tail) h ∙ t ∙ sym (ap (λ b. cond (bytes_eq other name) new (cond b s (stack_of other (map bytes keys) stacks))) h)
+          ap (λ b. cond b s tail) h ∙ t ∙ sym (ap (λ b. cond (bytes_eq other name) new (cond b s (stack_of other keys stacks))) h)
 
   -- a stack of a new name
   pub stack-push : (other : List ℕ) (new : Stack) (names : List (List ℕ)) (stacks : List Stack) → list_any (bytes_eq name) names ≡ false
@@ -129,20 +129,20 @@ module _ {K : Type 0} (bytes : K → List ℕ) (name : List ℕ) where
       by false h rest = rest h
 
   -- a changed stack
-  module _ (new d : Stack) (other : List ℕ) (keys : List K) (stacks : List Stack) (i : ℕ)
-      (at : position (λ k. bytes_eq name (bytes k)) keys ≡ Some i) (same : length keys ≡ length stacks) where
+  module _ (new d : Stack) (other : List ℕ) (keys : List (List ℕ)) (stacks : List Stack) (i : ℕ)
+      (at : position (bytes_eq name) keys ≡ Some i) (same : length keys ≡ length stacks) where
     old : Stack
-    old = stack_of other (map bytes keys) stacks
+    old = stack_of other keys stacks
 
     given : bytes_eq other name ≡ true → get_or stacks i d ≡ old
     unfolding old
     given h =
         let one : name ≡ other = sym ((bytes_eq-Decides other name).0 h) in
-        sym (stack-at d keys stacks i at same) ∙ ap (λ n. stack_of n (map bytes keys) stacks) one
+        sym (stack-at d keys stacks i at same) ∙ ap (λ n. stack_of n keys stacks) one
 
     pub shapes-change : (f : List Shape → List Shape) → new.shapes ≡ f (get_or stacks i d).shapes
-        → (stack_of other (map bytes keys) (set stacks i new)).shapes
-        ≡ cond (bytes_eq other name) (f (stack_of other (map bytes keys) stacks).shapes) (stack_of other (map bytes keys) stacks).shapes
+        → (stack_of other keys (set stacks i new)).shapes
+        ≡ cond (bytes_eq other name) (f (stack_of other keys stacks).shapes) (stack_of other keys stacks).shapes
     unfolding old
     shapes-change f is = ap (λ s. s.shapes) (stack-set other new keys stacks i at same) ∙ by (bytes_eq other name) refl
       where
@@ -151,7 +151,7 @@ module _ {K : Type 0} (bytes : K → List ℕ) (name : List ℕ) where
         by true h = is ∙ ap (λ s. f s.shapes) (given h)
 
     pub types-same : new.kinds.types ≡ (get_or stacks i d).kinds.types
-        → (stack_of other (map bytes keys) (set stacks i new)).kinds.types ≡ (stack_of other (map bytes keys) stacks).kinds.types
+        → (stack_of other keys (set stacks i new)).kinds.types ≡ (stack_of other keys stacks).kinds.types
     unfolding old
     types-same is = ap (λ s. s.kinds.types) (stack-set other new keys stacks i at same) ∙ by (bytes_eq other name) refl
       where
@@ -161,8 +161,8 @@ module _ {K : Type 0} (bytes : K → List ℕ) (name : List ℕ) where
 
     -- what holds of the new stack holds of the old one, or something else does, where this is the name
     pub change-cases : (P Q : Stack → Type 0) → (P new → P (get_or stacks i d) ⊎ Q (get_or stacks i d))
-        → P (stack_of other (map bytes keys) (set stacks i new))
-        → P (stack_of other (map bytes keys) stacks) ⊎ ((other ≡ name) × Q (stack_of other (map bytes keys) stacks))
+        → P (stack_of other keys (set stacks i new))
+        → P (stack_of other keys stacks) ⊎ ((other ≡ name) × Q (stack_of other keys stacks))
     unfolding old
     change-cases P Q back is = by (bytes_eq other name) refl (subst P (stack-set other new keys stacks i at same) is)
       where
@@ -174,7 +174,7 @@ module _ {K : Type 0} (bytes : K → List ℕ) (name : List ℕ) where
         ]
 
     pub change-back : (P : Stack → Type 0) → (P new → P (get_or stacks i d))
-        → P (stack_of other (map bytes keys) (set stacks i new)) → P (stack_of other (map bytes keys) stacks)
+        → P (stack_of other keys (set stacks i new)) → P (stack_of other keys stacks)
     change-back P back is = elim (change-cases P (λ s. ⊥) (λ p. inl (back p)) is) [ inl p ↦ p | inr q ↦ absurd q.1 ]
 
   -- a first shape
@@ -199,7 +199,3 @@ module _ {K : Type 0} (bytes : K → List ℕ) (name : List ℕ) where
         by : (b : Bool) → bytes_eq other name ≡ b → P (cond b new (stack_of other names stacks)) → P (stack_of other names stacks)
         by false h p = p
         by true h p = subst P (sym (lacking h)) (back p)
-
-pub list_any-map : {X Y : Type 0} (p : Y → Bool) (f : X → Y) (xs : List X) → list_any p (map f xs) ≡ list_any (λ x. p (f x)) xs
-list_any-map p f [] = refl
-list_any-map p f (x ∷ xs) = ap (λ b. p (f x) || b) (list_any-map p f xs)

@@ -1,5 +1,9 @@
 -- What a stack of shapes and its marks keep.
-use Rattle.std.specs.Prelude.{ℕ, ◌≡◌, ◌≤◌, not, if◌then◌else◌, List, [], ◌∷◌, ◌++◌, map, flat_map, count_by, Some, is_none, slice_get, length, Contains}
+use Rattle.std.specs.Prelude.{ℕ, ◌≡◌, ◌≤◌, not, if◌then◌else◌, List, [], ◌∷◌, ◌++◌, map, flat_map, count_by, Some, is_none, slice_get, length, Contains, position, bytes_eq, Vec}
+use Rattle.std.specs.declared.alloc.Global.{Global}
+use Rattle.std.specs.Ordering.{nat_cmp}
+use Rattle.std.specs.Cmp.Lexicographic.{slice_cmp}
+use Rattle.std.specs.BTreeMap.{BTreeMap, get_by}
 use Rattle.std.specs.Option.{option_to_list}
 use Rattle.nif_names.specs.declared.shapes.Shape.{Shape}
 use Rattle.nif_names.specs.declared.shapes.Entry.{Entry}
@@ -34,3 +38,7 @@ pub record AreOrdered (since : List ℕ) (types marks : ℕ) : Type 0 where
   pub count : length since ≡ types
   pub within : (i a : ℕ) → slice_get since i ≡ Some a → a ≤ marks
   pub ordered : (i j a b : ℕ) → i ≤ j → slice_get since i ≡ Some a → slice_get since j ≡ Some b → a ≤ b
+
+-- Each name is found at its place.
+abbrev pub ArePlaced : List (List ℕ) → BTreeMap (Vec ℕ Global) ℕ → Type 0
+ArePlaced names places = (name : List ℕ) → get_by (λ key. slice_cmp nat_cmp name key.items) places ≡ position (bytes_eq name) names

@@ -2,9 +2,9 @@
 ghost use Rattle.std.specs.Prelude.{◌≡◌, ℕ, ◌<◌, ◌≤◌, ◌⊎◌, [], ◌∷◌, ◌++◌, List, length, take, OnOk, OnErr, IsTrue, IfSome, Some, slice_get};
 ghost use Rattle.nif_names.specs.Marks.{AreBefore, Holds, IsFound};
 
-use indexmap::IndexMap;
 use nif_base::NoMemory;
 use std::alloc::Global;
+use std::collections::BTreeMap;
 use std::marker::Model;
 
 /// What was found of the first types of a stack.
@@ -45,7 +45,7 @@ pub struct MarkedTypes {
     since: Vec<usize>,
     marks: Vec<Mark>,
     /// The place of the last mark under a key.
-    latest: IndexMap<Vec<u16>, usize>,
+    latest: BTreeMap<Vec<u16>, usize>,
 }
 
 impl Model for MarkedTypes {
@@ -71,7 +71,7 @@ impl MarkedTypes {
             types: Vec::new(alloc),
             since: Vec::new(alloc),
             marks: Vec::new(alloc),
-            latest: IndexMap::new(alloc),
+            latest: BTreeMap::new(alloc),
         }
     }
 
@@ -107,11 +107,13 @@ impl MarkedTypes {
         self.since.truncate(count);
     }
 
-    /// Keeps under a key what was found of the first types.
+    /// Keeps under a key what was found of the first types; after want of memory the stack is as before, though what was
+    /// found earlier under the key may be forgotten.
     pub fn mark(&mut self, key: &[u16], found: Found) -> Result<(), NoMemory>
         ensures types { self.new.types ≡ self.old.types }
         ensures marks { OnOk result ((other types : List ℕ) (stop : ℕ) → IsFound self.new other types stop
             → IsFound self.old other types stop ⊎ ((other ≡ key.now) × (types ≡ take found.count self.old.types) × (stop ≡ found.stop))) }
+        ensures err { OnErr result (self.new ≡ self.old) }
     {
         let before = self.last(key);
         let Ok(own) = Vec::from_slice(self.alloc, key) else {
@@ -134,7 +136,8 @@ impl MarkedTypes {
         Ok(())
     }
 
-    /// What was last found under a key and still holds. Marks that no longer hold are passed over, and not met again.
+    /// What was found under a key and still holds; it may be forgotten. Marks that no longer hold are passed over, and not
+    /// met again.
     pub fn found(&mut self, key: &[u16]) -> Option<Found>
         ensures same { self.new ≡ self.old }
         ensures within { IfSome result (λ found. found.count ≤ length self.old.types) }

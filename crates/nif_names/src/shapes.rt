@@ -6,9 +6,9 @@ ghost use Rattle.nif_names.specs.Kept.{new_inner};
 ghost use Rattle.nif_names.specs.Marks.{IsFound, none_marked};
 
 use crate::marked::{Found, MarkedTypes};
-use indexmap::IndexMap;
 use nif_base::NoMemory;
 use std::alloc::Global;
+use std::collections::BTreeMap;
 use std::marker::Model;
 
 /// What a name may stand for in one of its meanings.
@@ -51,7 +51,7 @@ pub struct Shapes {
     /// The inner types of the entries that are new.
     inners: MarkedTypes,
     /// Where an inner type was put in `inners`; it may have been taken off since.
-    places: IndexMap<u32, usize>,
+    places: BTreeMap<u32, usize>,
 }
 
 impl Model for Shapes {
@@ -77,7 +77,7 @@ impl Shapes {
             not_rows: 0,
             not_inner: 0,
             inners: MarkedTypes::new(alloc),
-            places: IndexMap::new(alloc),
+            places: BTreeMap::new(alloc),
         }
     }
 
@@ -117,8 +117,8 @@ impl Shapes {
         self.inners.types()
     }
 
-    /// What was last found under a key of the first inner types, where these are still there. It takes time as there
-    /// are marks under the key that no longer hold, each once.
+    /// What was found under a key of the first inner types, where these are still there; it may be forgotten. It takes
+    /// time as there are marks under the key that no longer hold, each once.
     pub fn found(&mut self, key: &[u16]) -> Option<Found>
         ensures same { self.new ≡ self.old }
         ensures within { IfSome result (λ found. found.count ≤ length self.old.kinds.types) }
@@ -127,12 +127,13 @@ impl Shapes {
         self.inners.found(key)
     }
 
-    /// Keeps under a key what was found of the first inner types.
+    /// Keeps under a key what was found of the first inner types; after want of memory the stack is as before.
     pub fn mark(&mut self, key: &[u16], found: Found) -> Result<(), NoMemory>
         ensures shapes { self.new.shapes ≡ self.old.shapes }
         ensures types { self.new.kinds.types ≡ self.old.kinds.types }
         ensures marks { OnOk result ((other types : List ℕ) (stop : ℕ) → IsFound self.new.kinds other types stop
             → IsFound self.old.kinds other types stop ⊎ ((other ≡ key.now) × (types ≡ take found.count self.old.kinds.types) × (stop ≡ found.stop))) }
+        ensures err { OnErr result (self.new ≡ self.old) }
     {
         self.inners.mark(key, found)
     }

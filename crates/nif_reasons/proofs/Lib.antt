@@ -1,6 +1,7 @@
-mod JumpLemmas
 mod Lists
 mod OwnLemmas
+mod ParentLemmas
 mod ReasonLemmas
 mod TreeLemmas
+mod VisitLemmas
 mod WayLemmas

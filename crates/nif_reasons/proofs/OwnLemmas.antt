@@ -3,7 +3,7 @@ use Rattle.std.proofs.Common.{◌≡◌, ℕ, zero, suc, Bool, true, false, List
 use Rattle.std.specs.List.{list_any}
 use Rattle.std.specs.Option.{option_map_or}
 use Rattle.nif_schema.specs.Declaration.{Name, Declaration}
-use Rattle.nif_schema.specs.Schema.{Schema, ancestor, fields_of}
+use Rattle.nif_schema.specs.Schema.{Schema, parent, ancestor, fields_of}
 use Rattle.nif_schema.specs.Uses.{is_struct}
 use Rattle.nif_schema.specs.Paths.{storage_width}
 use Rattle.nif_schema.specs.Reasons.{first_reason, reason_where, is_bad_member, is_unread, has_bad_member, lacks_parent, has_no_root, ancestor_lacks, own_reason, fields_reason, line_above}
@@ -14,10 +14,13 @@ use Rattle.nif_schema.specs.declared.decls.What.TheVariants.{Basic, Stored, Stru
 use Rattle.nif_schema.specs.declared.members.BitMember.{BitMember}
 use Rattle.nif_schema.specs.declared.faults.Closed.{Closed}
 use Rattle.nif_schema.specs.declared.faults.Closed.TheVariants.{C0, C2, C3, C10, C13}
-use Rattle.nif_reasons.specs.Ways.{has_struct}
 use Rattle.std.proofs.Common.{◌<◌, arith}
+use Rattle.nif_reasons.specs.Visits.{IsRooted}
+use Rattle.nif_reasons.specs.Ways.{IsWayFrom, has_struct, last_or}
+use Rattle.nif_reasons.proofs.ParentLemmas.{ancestor-up, lacks-found}
+use Rattle.nif_reasons.proofs.WayLemmas.{lacks-first, lacks-behind, last-there}
 use Rattle.nif_reasons.specs.FieldReasons.{type_reason, early_reason}
-use Rattle.nif_reasons.proofs.ReasonLemmas.{first-append, first-only, first-moved, three, first-here, first-later}
+use Rattle.nif_reasons.proofs.ReasonLemmas.{first-append, first-only, first-moved, three}
 
 module _ (S : Schema) (what : What) where
   stored : Option ℕ → List BitMember → Option Closed
@@ -89,11 +92,6 @@ four-last false true c d e f g = absurd (cc)
 four-last false false true d e f g = absurd (cc)
 four-last false false false d e f g = sym (first-only d)
 
-four-none : (a b c : Bool) (d : Option Closed) → is_some (four a b c d) ≡ false → b ≡ false
-four-none true b c d e = absurd (cc)
-four-none false true c d e = absurd (cc)
-four-none false false c d e = refl
-
 first-inner : (a b c : Option Closed) → first_reason (a ∷ first_reason (b ∷ c ∷ []) ∷ []) ≡ first_reason (a ∷ b ∷ c ∷ [])
 first-inner None b c = first-only (first_reason (b ∷ c ∷ []))
 first-inner (Some r) b c = refl
@@ -104,16 +102,40 @@ lost (d ∷ ds) zero lt e = cc
 lost (d ∷ ds) (suc n) lt e = lost ds n (omega (arith, lt)) e
 
 module _ (S : Schema) (n : ℕ) where
-  pub early-is : early_reason S n ≡ four (lacks_parent S n) (is_some (ancestor S (length S) n)) (ancestor_lacks (length S) S n) (option_and_then (λ d. type_reason S d.what) (slice_get S n))
-  unfolding early_reason has_no_root
+  -- how it is stored
+  stores : Option Closed
+  stores = option_and_then (λ d. type_reason S d.what) (slice_get S n)
+
+  early-is : early_reason S n ≡ four (lacks_parent S n) (is_some (ancestor S (length S) n)) (ancestor_lacks (length S) S n) stores
+  unfolding early_reason has_no_root stores
   early-is = refl
 
-  pub early-ends : is_some (early_reason S n) ≡ false → ancestor S (length S) n ≡ None
-  early-ends e = by (ancestor S (length S) n) (four-none (lacks_parent S n) (is_some (ancestor S (length S) n)) (ancestor_lacks (length S) S n) (option_and_then (λ d. type_reason S d.what) (slice_get S n)) (ap is_some (sym early-is) ∙ e))
+  ended : IsRooted S n → is_some (ancestor S (length S) n) ≡ false
+  ended rooted = ap is_some rooted.ends
+
+  -- at the start of a way, and behind one
+  pub early-first : (way : List ℕ) → None ≡ slice_get way 0 → parent S n ≡ last_or None way → IsRooted S n
+      → early_reason S n ≡ four (lacks_parent S n) false false (option_and_then (λ d. type_reason S d.what) (slice_get S n))
+  unfolding stores
+  early-first [] e up rooted =
+      early-is ∙ ap (λ b. four (lacks_parent S n) b (ancestor_lacks (length S) S n) stores) (ended rooted)
+      ∙ ap (λ b. four (lacks_parent S n) false b stores) (lacks-first S n up)
+  early-first (m ∷ ms) e up rooted = absurd (cc)
+
+  pub early-behind : (way : List ℕ) (root : ℕ) → Some root ≡ slice_get way 0 → IsWayFrom S None way → parent S n ≡ last_or None way → IsRooted S n
+      → early_reason S n ≡ four false false (lacks_parent S root) (option_and_then (λ d. type_reason S d.what) (slice_get S n))
+  unfolding stores
+  early-behind [] root e w up rooted = absurd (cc)
+  early-behind (m ∷ ms) root e w up rooted =
+      let same : m ≡ root = cc in
+      let last = last-there (m ∷ ms) None (λ p h. absurd (cc)) (last-some (Some m) ms m refl) in
+      early-is ∙ ap (λ b. four b (is_some (ancestor S (length S) n)) (ancestor_lacks (length S) S n) stores) (lacks-found S n last.0 (up ∙ last.1))
+      ∙ ap (λ b. four false b (ancestor_lacks (length S) S n) stores) (ended rooted)
+      ∙ ap (λ b. four false false b stores) (lacks-behind S m ms n w up rooted.ends ∙ ap (lacks_parent S) same)
     where
-      by : (o : Option ℕ) → is_some o ≡ false → o ≡ None
-      by None h = refl
-      by (Some x) h = absurd (cc)
+      last-some : (above : Option ℕ) (ms : List ℕ) (m : ℕ) → above ≡ Some m → None ≡ last_or above ms → ⊥
+      last-some above [] m e none = cc
+      last-some above (k ∷ ks) m e none = last-some (Some k) ks k refl none
 
   pub own-parts : (d : Declaration) → slice_get S n ≡ Some d
       → first_reason (early_reason S n ∷ fields_reason S (is_struct d.what) (line_above S n) d.fields ∷ []) ≡ own_reason S n
@@ -138,25 +160,36 @@ module _ (S : Schema) (n : ℕ) where
       ∷ fields_reason S (is_struct x.what) (line_above S n) x.fields
       ∷ [])) o) at)
 
-  -- a reason that isn't of fields
-  pub own-early : n < length S → (early : Option Closed) → early ≡ early_reason S n → is_some early ≡ true → early ≡ own_reason S n
-  own-early lt early is some = by (slice_get S n) refl
+  -- the own reason, by the reason that isn't of fields
+  pub own-whole : n < length S → (early : Option Closed) → early ≡ early_reason S n
+      → first_reason (early ∷ fields_reason S (has_struct S n) (line_above S n) (fields_of S n) ∷ []) ≡ own_reason S n
+  own-whole lt early is = by (slice_get S n) refl
     where
-      by : (o : Option Declaration) → slice_get S n ≡ o → early ≡ own_reason S n
+      by : (o : Option Declaration) → slice_get S n ≡ o → first_reason (early ∷ fields_reason S (has_struct S n) (line_above S n) (fields_of S n) ∷ []) ≡ own_reason S n
       by None e = absurd (lost S n lt e)
       by (Some d) e =
-          let fields = fields_reason S (is_struct d.what) (line_above S n) d.fields in
-          first-here early (fields ∷ []) some ∙ ap (λ a. first_reason (a ∷ fields ∷ [])) is ∙ own-parts d e
+          ap (λ o. first_reason (early ∷ fields_reason S (option_map_or (λ x. is_struct x.what) o false) (line_above S n) (option_map_or (λ x. x.fields) o []) ∷ [])) e
+          ∙ ap (λ a. first_reason (a ∷ fields_reason S (is_struct d.what) (line_above S n) d.fields ∷ [])) is ∙ own-parts d e
 
-  -- and that of fields where there is none
-  pub own-whole : n < length S → (early : Option Closed) → early ≡ early_reason S n → is_some early ≡ false
-      → fields_reason S (has_struct S n) (line_above S n) (fields_of S n) ≡ own_reason S n
-  own-whole lt early is none = by (slice_get S n) refl
+  -- a walk of parents that doesn't end
+  pub own-endless : n < length S → (ancestor S (length S) n ≡ None → ⊥) → own_reason S n ≡ Some C3
+  own-endless lt endless = by (slice_get S n) refl
     where
-      by : (o : Option Declaration) → slice_get S n ≡ o → fields_reason S (has_struct S n) (line_above S n) (fields_of S n) ≡ own_reason S n
+      some : (o : Option ℕ) → (o ≡ None → ⊥) → is_some o ≡ true
+      some None f = absurd (f refl)
+      some (Some x) f = refl
+
+      by : (o : Option Declaration) → slice_get S n ≡ o → own_reason S n ≡ Some C3
       by None e = absurd (lost S n lt e)
       by (Some d) e =
-          let fields = fields_reason S (is_struct d.what) (line_above S n) d.fields in
-          ap (λ o. fields_reason S (option_map_or (λ x. is_struct x.what) o false) (line_above S n) (option_map_or (λ x. x.fields) o [])) e
-          ∙ sym (first-only fields)
-          ∙ first-later early (fields ∷ []) none ∙ ap (λ a. first_reason (a ∷ fields ∷ [])) is ∙ own-parts d e
+          let early : Some C3 ≡ early_reason S n =
+          four-second (lacks_parent S n) (is_some (ancestor S (length S) n)) (ancestor_lacks (length S) S n) stores (has-parent (parent S n) refl) (some (ancestor S (length S) n) endless) ∙ sym early-is in
+          sym (ap (λ a. first_reason (a ∷ fields_reason S (is_struct d.what) (line_above S n) d.fields ∷ [])) early ∙ own-parts d e)
+        where
+          past : (most : ℕ) → 0 < most → parent S n ≡ None → ancestor S most n ≡ None
+          past zero lt e = absurd (omega (arith, lt))
+          past (suc most) lt e = ancestor-up S most n ∙ ap (option_and_then (ancestor S most)) e
+
+          has-parent : (o : Option ℕ) → parent S n ≡ o → lacks_parent S n ≡ false
+          has-parent None e = absurd (endless (past (length S) (omega (arith, lt)) e))
+          has-parent (Some p) e = lacks-found S n p e

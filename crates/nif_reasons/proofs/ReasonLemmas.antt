@@ -1,5 +1,5 @@
 -- The first reason of a list.
-use Rattle.std.proofs.Common.{◌≡◌, Bool, true, false, cond, List, [], ◌∷◌, ◌++◌, map, Option, Some, None, is_some, IfOk, Ok, Err, Result, refl, sym, ap, ◌∙◌}
+use Rattle.std.proofs.Common.{◌≡◌, Bool, true, false, cond, List, [], ◌∷◌, ◌++◌, map, Option, Some, None, is_some, IfOk, OnOk, Ok, Err, Result, refl, sym, ap, ◌∙◌}
 use Rattle.std.proofs.lemmas.List.{map-append}
 use Rattle.std.proofs.Common.{◌≢◌, not, ◌&&◌, ◌||◌, filter, bytes_eq}
 use Rattle.std.specs.List.{list_any, list_all}
@@ -17,6 +17,10 @@ use Rattle.nif_schema.specs.declared.faults.Closed.TheVariants.{C4, C9, C11, C12
 pub on : {X E : Type 0} {P Q : X → Type 0} (r : Result X E) → IfOk r P → ((x : X) → P x → Q x) → IfOk r Q
 on (Ok x) p f = f x p
 on (Err e) p f = tt
+
+pub on-ok : {E : Type 0} {P Q : Type 0} (r : Result (Unit {0}) E) → OnOk r P → (P → Q) → OnOk r Q
+on-ok (Ok x) p f = f p
+on-ok (Err e) p f = tt
 
 pub first-here : (a : Option Closed) (rest : List (Option Closed)) → is_some a ≡ true → a ≡ first_reason (a ∷ rest)
 first-here None rest e = absurd (cc)

@@ -1,10 +1,10 @@
 -- The reason that a field gives, in parts.
-use Rattle.std.specs.Prelude.{ℕ, Bool, ◌||◌, List, [], ◌∷◌, None, Some, length, slice_get, option_and_then}
+use Rattle.std.specs.Prelude.{ℕ, ◌≡◌, ◌<◌, Bool, ◌||◌, List, [], ◌∷◌, None, Some, length, slice_get, option_and_then}
 use Rattle.std.specs.declared.option.Option.{Option}
 use Rattle.nif_schema.specs.Declaration.{Name, Field, Formula, Read}
 use Rattle.nif_schema.specs.Expression.{Path}
 use Rattle.nif_schema.specs.Schema.{Schema}
-use Rattle.nif_schema.specs.Reasons.{first_reason, reason_where, kind_reason, template_reason, is_bad_bound, is_no_block, is_bad_exact, formula_reason, width_reason, width_where, is_unread, has_bad_member, lacks_parent, has_no_root, ancestor_lacks}
+use Rattle.nif_schema.specs.Reasons.{first_reason, reason_where, kind_reason, template_reason, is_bad_bound, is_no_block, is_bad_exact, formula_reason, width_reason, width_where, is_unread, has_bad_member, lacks_parent, has_no_root, ancestor_lacks, own_reason}
 use Rattle.nif_schema.specs.declared.decls.What.{What}
 use Rattle.nif_schema.specs.declared.faults.Closed.{Closed}
 use Rattle.nif_schema.specs.declared.faults.Closed.TheVariants.{C0, C2, C3, C4, C10, C11, C12, C13}
@@ -50,3 +50,8 @@ early_reason schema number = first_reason (
     ∷ reason_where C0 (ancestor_lacks (length schema) schema number)
     ∷ option_and_then (λ d. type_reason schema d.what) (slice_get schema number)
     ∷ [])
+
+-- the own reason of each declaration
+pub record AreOwnReasons (schema : Schema) (reasons : List (Option Closed)) : Type 0 where
+  pub count : length reasons ≡ length schema
+  pub each : (number : ℕ) → number < length schema → slice_get reasons number ≡ Some (own_reason schema number)

@@ -1,4 +1,3 @@
-pub mod Answers
 pub mod FieldReasons
-pub mod Jumps
+pub mod Visits
 pub mod Ways

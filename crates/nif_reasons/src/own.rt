@@ -1,16 +1,16 @@
 //! The own reasons of all types.
-ghost use Rattle.std.specs.Prelude.{◌≡◌, ℕ, ◌<◌, ◌+◌, ◌*◌, length, IfOk, IfSome, Some, slice_get, nat_lt};
+ghost use Rattle.std.specs.Prelude.{◌≡◌, ℕ, ◌<◌, ◌+◌, ◌*◌, [], length, IfOk, None, Some, slice_get, nat_lt};
 ghost use Rattle.std.specs.List.{list_any};
 ghost use Rattle.nif_schema.specs.Reasons as spec;
-ghost use Rattle.nif_reasons.specs.Jumps.{AreJumps};
+ghost use Rattle.nif_schema.specs.Schema.{parent};
+ghost use Rattle.nif_schema.specs.declared.faults.Closed.TheVariants.{C3};
 ghost use Rattle.nif_paths.specs.Shaped.{AreMarks, AreInsides};
-ghost use Rattle.nif_reasons.specs.Ways.{IsAt};
-ghost use Rattle.nif_reasons.specs.Answers.{AreFound};
-ghost use Rattle.nif_reasons.specs.FieldReasons.{type_reason, early_reason};
+ghost use Rattle.nif_reasons.specs.FieldReasons.{type_reason, early_reason, AreOwnReasons};
+ghost use Rattle.nif_reasons.specs.Visits.{AreVisits, IsNext, IsRooted};
+ghost use Rattle.nif_reasons.specs.Ways.{IsAt, IsWayFrom, last_or};
 
-use crate::jumps::{Jump, all_steps, lacks_parent};
 use crate::visits::visits;
-use crate::ways::{Way, own_fields_reason};
+use crate::ways::{Way, back_to, enter};
 use nif_base::NoMemory;
 use nif_names::Names;
 use nif_paths::{Line, inside_tables, storage_width};
@@ -63,127 +63,109 @@ fn type_reason(schema: &Schema, what: &What) -> Option<Closed>
     }
 }
 
-/// Why a type closes itself by other than its fields.
-fn early_reason(schema: &Schema, jumps: &[Jump], number: u32) -> Option<Closed>
-    requires within { number < length schema.now }
-    requires jumps { AreJumps schema.now (length schema.now) jumps.now }
+/// Whether a declaration inherits from a name that is no declared block type.
+fn lacks_parent(schema: &Schema, number: u32) -> bool
+    requires { number < length schema.now }
+    ensures { result ≡ spec.lacks_parent schema.now number }
+{
+    let Some(_) = schema.decl(number).what.parent_name() else {
+        return false;
+    };
+    match schema.parent(number) {
+        Some(_) => false,
+        None => true,
+    }
+}
+
+/// Why a type closes itself by other than its fields, which is behind a way. Of the types on a way only the first may
+/// lack its parent.
+fn early_reason(schema: &Schema, way: &[u32], number: u32) -> Option<Closed>
+    requires rooted { IsRooted schema.now number }
+    requires way { IsWayFrom schema.now None way.now }
+    requires child { parent schema.now number ≡ last_or None way.now }
     ensures { result ≡ early_reason schema.now number }
 {
-    if lacks_parent(schema, number) {
-        return Some(Closed::C2);
-    }
-    let jump = jumps[number as usize];
-    if jump.to.is_some() {
-        return Some(Closed::C3);
-    }
-    if jump.lacks {
-        return Some(Closed::C0);
+    match way.first() {
+        Some(root) => {
+            if lacks_parent(schema, *root) {
+                return Some(Closed::C0);
+            }
+        }
+        None => {
+            if lacks_parent(schema, number) {
+                return Some(Closed::C2);
+            }
+        }
     }
     type_reason(schema, &schema.decl(number).what)
 }
 
-/// The own reason of a type.
+/// The own reason of a type that may come next behind the last of a way, which then ends in it.
 fn own_reason(
     alloc: Global,
     schema: &Schema,
     generic: &[bool],
     tables: &[Names],
-    jumps: &[Jump],
     way: &mut Way,
     number: u32,
 ) -> Result<Option<Closed>, NoMemory>
     requires marks { AreMarks schema.now generic.now }
     requires insides { AreInsides schema.now tables.now }
-    requires jumps { AreJumps schema.now (length schema.now) jumps.now }
     requires at { IsAt schema.now way.old.stack.items way.old.line }
-    requires within { number < length schema.now }
+    requires rooted { IsRooted schema.now number }
+    requires next { IsNext schema.now (last_or None way.old.stack.items) number }
     ensures at { IfOk result (λ reason. IsAt schema.now way.new.stack.items way.new.line) }
+    ensures last { IfOk result (λ reason. last_or None way.new.stack.items ≡ Some number) }
     ensures reason { IfOk result (λ reason. reason ≡ spec.own_reason schema.now number) }
 {
-    let early = early_reason(schema, jumps, number);
-    if early.is_some() {
-        return Ok(early);
-    }
-    own_fields_reason(alloc, schema, generic, tables, way, number)
+    back_to(alloc, schema, way, schema.parent(number));
+    let early = early_reason(schema, way.stack.as_slice(), number);
+    enter(alloc, schema, generic, tables, way, early, number)
 }
 
-/// An own reason that was found.
-#[derive(Debug, Clone, Copy, PartialEq, Eq)]
-pub struct Found {
-    reason: Option<Closed>,
-}
-
-fn nothing_found(alloc: Global, schema: &Schema) -> Result<Vec<Option<Found>>, NoMemory>
-    ensures { IfOk result (λ found. AreFound schema.now found.items) }
+/// The reason of each type, where the walk of parents ends from none.
+fn endless(alloc: Global, schema: &Schema) -> Result<Vec<Option<Closed>>, NoMemory>
+    ensures count { IfOk result (λ reasons. length reasons.items ≡ length schema.now) }
+    ensures each { IfOk result (λ reasons. (number : ℕ) → number < length schema.now → slice_get reasons.items number ≡ Some (Some C3)) }
 {
-    let mut found = Vec::new(alloc);
+    let mut reasons = Vec::new(alloc);
     for _number in 0..schema.count() {
-        let Ok(()) = found.push(None) else {
+        let Ok(()) = reasons.push(Some(Closed::C3)) else {
             return Err(NoMemory);
         };
     }
-    Ok(found)
+    Ok(reasons)
 }
 
-/// The own reasons of the types of an order.
-fn found_in_order(
+/// The own reasons of all types, by a way that goes along an order.
+fn reasons_along(
     alloc: Global,
     schema: &Schema,
     generic: &[bool],
     tables: &[Names],
-    jumps: &[Jump],
     way: &mut Way,
     order: &[u32],
-) -> Result<Vec<Option<Found>>, NoMemory>
+) -> Result<Vec<Option<Closed>>, NoMemory>
     requires marks { AreMarks schema.now generic.now }
     requires insides { AreInsides schema.now tables.now }
-    requires jumps { AreJumps schema.now (length schema.now) jumps.now }
+    requires order { AreVisits schema.now order.now }
     requires at { IsAt schema.now way.old.stack.items way.old.line }
-    ensures at { IfOk result (λ found. IsAt schema.now way.new.stack.items way.new.line) }
-    ensures found { IfOk result (λ found. AreFound schema.now found.items) }
+    requires start { way.old.stack.items ≡ [] }
+    ensures { IfOk result (λ reasons. AreOwnReasons schema.now reasons.items) }
 {
-    let mut found = match nothing_found(alloc, schema) {
-        Ok(found) => found,
+    let mut reasons = match endless(alloc, schema) {
+        Ok(reasons) => reasons,
         Err(fault) => return Err(fault),
     };
     for number in order {
         let number = *number;
-        if number >= schema.count() {
-            continue;
-        }
-        let reason = match own_reason(alloc, schema, generic, tables, jumps, way, number) {
+        let reason = match own_reason(alloc, schema, generic, tables, way, number) {
             Ok(reason) => reason,
             Err(fault) => return Err(fault),
         };
-        found[number as usize] = Some(Found { reason });
+        reasons[number as usize] = reason;
     }
-    Ok(found)
-}
-
-/// The own reason that was found, or else the own reason.
-fn found_or_own(
-    alloc: Global,
-    schema: &Schema,
-    generic: &[bool],
-    tables: &[Names],
-    jumps: &[Jump],
-    way: &mut Way,
-    found: Option<Found>,
-    number: u32,
-) -> Result<Option<Closed>, NoMemory>
-    requires marks { AreMarks schema.now generic.now }
-    requires insides { AreInsides schema.now tables.now }
-    requires jumps { AreJumps schema.now (length schema.now) jumps.now }
-    requires at { IsAt schema.now way.old.stack.items way.old.line }
-    requires within { number < length schema.now }
-    requires found { IfSome found (λ f. f.reason ≡ spec.own_reason schema.now number) }
-    ensures at { IfOk result (λ reason. IsAt schema.now way.new.stack.items way.new.line) }
-    ensures reason { IfOk result (λ reason. reason ≡ spec.own_reason schema.now number) }
-{
-    match found {
-        Some(found) => Ok(found.reason),
-        None => own_reason(alloc, schema, generic, tables, jumps, way, number),
-    }
+    Ok(reasons)
 }
 
 /// The own reasons of all types.
@@ -192,37 +174,18 @@ fn all_reasons(
     schema: &Schema,
     generic: &[bool],
     tables: &[Names],
-    jumps: &[Jump],
     order: &[u32],
 ) -> Result<Vec<Option<Closed>>, NoMemory>
     requires marks { AreMarks schema.now generic.now }
     requires insides { AreInsides schema.now tables.now }
-    requires jumps { AreJumps schema.now (length schema.now) jumps.now }
-    ensures count { IfOk result (λ reasons. length reasons.items ≡ length schema.now) }
-    ensures each { IfOk result (λ reasons. (number : ℕ) → number < length schema.now → slice_get reasons.items number ≡ Some (spec.own_reason schema.now number)) }
+    requires order { AreVisits schema.now order.now }
+    ensures { IfOk result (λ reasons. AreOwnReasons schema.now reasons.items) }
 {
     let mut way = Way {
         stack: Vec::new(alloc),
         line: Line::new(alloc),
     };
-    let found = match found_in_order(alloc, schema, generic, tables, jumps, &mut way, order) {
-        Ok(found) => found,
-        Err(fault) => return Err(fault),
-    };
-    let mut reasons = Vec::new(alloc);
-    for number in 0..schema.count() {
-        let before = found[number as usize];
-        let reason = match found_or_own(
-            alloc, schema, generic, tables, jumps, &mut way, before, number,
-        ) {
-            Ok(reason) => reason,
-            Err(fault) => return Err(fault),
-        };
-        let Ok(()) = reasons.push(reason) else {
-            return Err(NoMemory);
-        };
-    }
-    Ok(reasons)
+    reasons_along(alloc, schema, generic, tables, &mut way, order)
 }
 
 /// For each declaration, in order, its own reason: the first that closes it, whatever the types that it uses; or
@@ -241,10 +204,6 @@ pub fn own_reasons(alloc: Global, schema: &Schema) -> Result<Vec<Option<Closed>>
         Ok(tables) => tables,
         Err(fault) => return Err(fault),
     };
-    let jumps = match all_steps(alloc, schema) {
-        Ok(jumps) => jumps,
-        Err(fault) => return Err(fault),
-    };
     let order = match visits(alloc, schema) {
         Ok(order) => order,
         Err(fault) => return Err(fault),
@@ -254,7 +213,6 @@ pub fn own_reasons(alloc: Global, schema: &Schema) -> Result<Vec<Option<Closed>>
         schema,
         generic.as_slice(),
         tables.as_slice(),
-        jumps.as_slice(),
         order.as_slice(),
     )
 }

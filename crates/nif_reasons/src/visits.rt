@@ -1,83 +1,107 @@
 //! An order of types in which each comes soon after its parent.
+ghost use Rattle.std.specs.Prelude.{◌≡◌, ◌+◌, ◌<◌, ◌∷◌, ◌++◌, [], length, None, IfOk, OnOk};
+ghost use Rattle.nif_reasons.specs.Visits.{AreVisits, AreBelow, AreChildren, AreParted};
+
 use nif_base::NoMemory;
 use nif_schema::Schema;
 use std::alloc::Global;
 
-/// The children of each declaration as a list: the first child, and the next child of the same parent. Those without
-/// a parent are children of none.
+/// The declarations without a parent, and the children of each declaration.
 #[derive(Drop)]
-struct Children {
-    root: Option<u32>,
-    first: Vec<Option<u32>>,
-    next: Vec<Option<u32>>,
+pub struct Children {
+    pub roots: Vec<u32>,
+    pub below: Vec<Vec<u32>>,
 }
 
-fn nothing(alloc: Global, count: u32) -> Result<Vec<Option<u32>>, NoMemory> {
-    let mut items = Vec::new(alloc);
-    for _place in 0..count {
-        let Ok(()) = items.push(None) else {
+fn push(numbers: &mut Vec<u32>, number: u32) -> Result<(), NoMemory>
+    ensures { OnOk result (numbers.new.items ≡ numbers.old.items ++ number ∷ []) }
+{
+    match numbers.push(number) {
+        Ok(()) => Ok(()),
+        Err(_) => Err(NoMemory),
+    }
+}
+
+fn no_children(alloc: Global, schema: &Schema) -> Result<Children, NoMemory>
+    ensures { IfOk result (AreParted schema.now 0) }
+{
+    let mut below = Vec::new(alloc);
+    for _number in 0..schema.count() {
+        let Ok(()) = below.push(Vec::new(alloc)) else {
             return Err(NoMemory);
         };
     }
-    Ok(items)
+    Ok(Children {
+        roots: Vec::new(alloc),
+        below,
+    })
 }
 
-fn children_of_all(alloc: Global, schema: &Schema) -> Result<Children, NoMemory> {
-    let mut root = None;
-    let mut first = match nothing(alloc, schema.count()) {
-        Ok(first) => first,
-        Err(fault) => return Err(fault),
-    };
-    let mut next = Vec::new(alloc);
+/// Puts a declaration among the children of its parent, or among those that have none.
+fn add_child(schema: &Schema, children: &mut Children, number: u32) -> Result<(), NoMemory>
+    requires within { number < length schema.now }
+    requires before { AreParted schema.now number children.old }
+    ensures { OnOk result (AreParted schema.now (number + 1) children.new) }
+{
+    match schema.parent(number) {
+        Some(parent) => push(&mut children.below[parent as usize], number),
+        None => push(&mut children.roots, number),
+    }
+}
+
+fn add_children(schema: &Schema, children: &mut Children) -> Result<(), NoMemory>
+    requires { AreParted schema.now 0 children.old }
+    ensures { OnOk result (AreParted schema.now (length schema.now) children.new) }
+{
     for number in 0..schema.count() {
-        let before = match schema.parent(number) {
-            Some(parent) => match first.get_mut(parent as usize) {
-                Some(child) => child.replace(number),
-                None => None,
-            },
-            None => root.replace(number),
-        };
-        let Ok(()) = next.push(before) else {
+        match add_child(schema, children, number) {
+            Ok(()) => {}
+            Err(fault) => return Err(fault),
+        }
+    }
+    Ok(())
+}
+
+/// The order in which each declaration is followed by its children, each with all below it; it begins with those that
+/// wait, the last first.
+fn order_of(
+    alloc: Global,
+    schema: &Schema,
+    waiting: &mut Vec<u32>,
+    below: &[Vec<u32>],
+) -> Result<Vec<u32>, NoMemory>
+    requires roots { AreBelow schema.now None (length schema.now) waiting.old.items }
+    requires below { AreChildren schema.now (length schema.now) below.now }
+    ensures { IfOk result (λ order. AreVisits schema.now order.items) }
+{
+    let mut order = Vec::new(alloc);
+    'down: while let Some(number) = waiting.pop() {
+        let Ok(()) = order.push(number) else {
             return Err(NoMemory);
         };
-    }
-    Ok(Children { root, first, next })
-}
-
-fn at(items: &[Option<u32>], number: u32) -> Option<u32> {
-    match items.get(number as usize) {
-        Some(item) => *item,
-        None => None,
-    }
-}
-
-/// Declarations in an order in which those that inherit from one come right behind it, with all that inherit from
-/// them; those whose walk of parents doesn't end are left out. Any order does for the answers of this crate, and this
-/// one makes them cheap.
-pub fn visits(alloc: Global, schema: &Schema) -> Result<Vec<u32>, NoMemory> {
-    let children = match children_of_all(alloc, schema) {
-        Ok(children) => children,
-        Err(fault) => return Err(fault),
-    };
-    let mut order = Vec::new(alloc);
-    let mut pending: Vec<Option<u32>> = Vec::new(alloc);
-    let mut here = children.root;
-    for _step in 0..2 * u64::from(schema.count()) {
-        here = match here {
-            Some(number) => {
-                let Ok(()) = order.push(number) else {
-                    return Err(NoMemory);
-                };
-                let Ok(()) = pending.push(at(children.next.as_slice(), number)) else {
-                    return Err(NoMemory);
-                };
-                at(children.first.as_slice(), number)
-            }
-            None => match pending.pop() {
-                Some(sibling) => sibling,
-                None => None,
-            },
+        let Ok(()) = waiting.extend_from_slice(&below[number as usize]) else {
+            return Err(NoMemory);
         };
     }
     Ok(order)
+}
+
+/// The declarations whose walk of parents ends, each once: one that inherits from another comes behind it, with none
+/// in between that doesn't inherit from the other, too. It takes time linear in declarations.
+pub fn visits(alloc: Global, schema: &Schema) -> Result<Vec<u32>, NoMemory>
+    ensures { IfOk result (λ order. AreVisits schema.now order.items) }
+{
+    let mut children = match no_children(alloc, schema) {
+        Ok(children) => children,
+        Err(fault) => return Err(fault),
+    };
+    match add_children(schema, &mut children) {
+        Ok(()) => order_of(
+            alloc,
+            schema,
+            &mut children.roots,
+            children.below.as_slice(),
+        ),
+        Err(fault) => Err(fault),
+    }
 }

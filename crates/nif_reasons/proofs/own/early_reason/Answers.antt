@@ -1,48 +1,37 @@
-use Rattle.std.proofs.Common.{◌<◌, arith, length, get_or, option_and_then, Option, slice_get, is_some, sym, ap, ◌∙◌}
-use Rattle.std.proofs.lemmas.Option.{slice_get-get_or}
+use Rattle.std.proofs.Common.{refl, Option, option_and_then, slice_get, false, sym, ap, ◌∙◌}
 use Rattle.nif_schema.specs.Declaration.{Declaration}
-use Rattle.nif_schema.specs.Schema.{ancestor}
-use Rattle.nif_schema.specs.Reasons.{lacks_parent, ancestor_lacks}
+use Rattle.nif_schema.specs.Reasons.{lacks_parent}
 use Rattle.nif_reasons.specs.FieldReasons.{type_reason}
-use Rattle.nif_reasons.specs.Jumps.{no_jump}
-use Rattle.nif_reasons.proofs.OwnLemmas.{four-first, four-second, four-third, four-last, early-is}
+use Rattle.nif_reasons.proofs.OwnLemmas.{four-first, four-third, four-last, early-first, early-behind}
 use Rattle.nif_reasons.proofs.own.early_reason.Goals as goal
+use Rattle.nif_reasons.proofs.own.early_reason.Goals.{in-Some+else-lacks_parent, in-None+else-lacks_parent-2}
 
 pub returns-then-lacks_parent : goal.returns-then-lacks_parent
 returns-then-lacks_parent c =
     let S = c.args.schema.now in
     let n = c.args.number in
-    four-first (lacks_parent S n) (is_some (ancestor S (length S) n)) (ancestor_lacks (length S) S n) (option_and_then (λ d. type_reason S d.what) (slice_get S n))
-    (sym c.if-lacks_parent.ensures) ∙ sym (early-is S n)
+    let root = c.in-Some.root.now in
+    four-third false false (lacks_parent S root) (option_and_then (λ d. type_reason S d.what) (slice_get S n)) refl refl (sym c.if-lacks_parent.ensures)
+    ∙ sym (early-behind S n c.args.way.now root c.in-Some.ensures.value c.requires.way c.requires.child c.requires.rooted)
 
-pub returns-then-is_some : goal.returns-then-is_some
-returns-then-is_some c =
+pub returns-then-lacks_parent-2 : goal.returns-then-lacks_parent-2
+returns-then-lacks_parent-2 c =
     let S = c.args.schema.now in
     let n = c.args.number in
-    let h = c.if-is_some.ensures in
-    let lt : n < length c.args.jumps.now = let w = c.requires.within in let e = c.requires.jumps.count in omega (arith, w, e) in
-    let jump = c.requires.jumps.each n (get_or c.args.jumps.now n no_jump) (slice_get-get_or c.args.jumps.now n no_jump lt) in
-    four-second (lacks_parent S n) (is_some (ancestor S (length S) n)) (ancestor_lacks (length S) S n) (option_and_then (λ d. type_reason S d.what) (slice_get S n))
-    (sym c.if-lacks_parent.ensures) (ap is_some (sym jump.to) ∙ sym h) ∙ sym (early-is S n)
-
-pub returns-then-jump : goal.returns-then-jump
-returns-then-jump c =
-    let S = c.args.schema.now in
-    let n = c.args.number in
-    let h = c.if-is_some.ensures in
-    let lt : n < length c.args.jumps.now = let w = c.requires.within in let e = c.requires.jumps.count in omega (arith, w, e) in
-    let jump = c.requires.jumps.each n (get_or c.args.jumps.now n no_jump) (slice_get-get_or c.args.jumps.now n no_jump lt) in
-    four-third (lacks_parent S n) (is_some (ancestor S (length S) n)) (ancestor_lacks (length S) S n) (option_and_then (λ d. type_reason S d.what) (slice_get S n))
-    (sym c.if-lacks_parent.ensures) (ap is_some (sym jump.to) ∙ sym h) (sym jump.lacks ∙ c.if-jump.true) ∙ sym (early-is S n)
+    four-first (lacks_parent S n) false false (option_and_then (λ d. type_reason S d.what) (slice_get S n)) (sym c.if-lacks_parent-2.ensures)
+    ∙ sym (early-first S n c.args.way.now c.in-None.ensures.value c.requires.child c.requires.rooted)
 
 pub returns : goal.returns
 returns c =
     let S = c.args.schema.now in
     let n = c.args.number in
-    let h = c.if-is_some.ensures in
-    let lt : n < length c.args.jumps.now = let w = c.requires.within in let e = c.requires.jumps.count in omega (arith, w, e) in
-    let jump = c.requires.jumps.each n (get_or c.args.jumps.now n no_jump) (slice_get-get_or c.args.jumps.now n no_jump lt) in
-    let own = ap (λ (o : Option Declaration). option_and_then (λ d. type_reason S d.what) o) c.decl.ensures in
-    c.type_reason.ensures ∙ sym own
-    ∙ four-last (lacks_parent S n) (is_some (ancestor S (length S) n)) (ancestor_lacks (length S) S n) (option_and_then (λ d. type_reason S d.what) (slice_get S n))
-    (sym c.if-lacks_parent.ensures) (ap is_some (sym jump.to) ∙ sym h) (sym jump.lacks ∙ c.if-jump.false) ∙ sym (early-is S n)
+    let own = c.type_reason.ensures ∙ sym (ap (λ (o : Option Declaration). option_and_then (λ d. type_reason S d.what) o) c.decl.ensures) in
+    elim c.match-first.branch [
+      | in-Some+else-lacks_parent w ↦
+          let root = w.in-Some.root.now in
+          own ∙ four-last false false (lacks_parent S root) (option_and_then (λ d. type_reason S d.what) (slice_get S n)) refl refl (sym w.if-lacks_parent.ensures)
+          ∙ sym (early-behind S n c.args.way.now root w.in-Some.ensures.value c.requires.way c.requires.child c.requires.rooted)
+      | in-None+else-lacks_parent-2 w ↦
+          own ∙ four-last (lacks_parent S n) false false (option_and_then (λ d. type_reason S d.what) (slice_get S n)) (sym w.if-lacks_parent-2.ensures) refl refl
+          ∙ sym (early-first S n c.args.way.now w.in-None.ensures.value c.requires.child c.requires.rooted)
+    ]

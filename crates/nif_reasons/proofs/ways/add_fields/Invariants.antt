@@ -8,5 +8,5 @@ abbrev pub invariant-loop-place : goal.invariant-loop-place
 invariant-loop-place l =
     (earlier : List Field) → IsLine l.schema earlier l.initial.line
     → IsLine l.schema (earlier ++ map field (take l.place l.fields)) l.line
-    × (fields_reason l.schema l.in_struct earlier (map field l.fields)
+    × (first_reason (l.initial.reason ∷ fields_reason l.schema l.in_struct earlier (map field l.fields) ∷ [])
     ≡ first_reason (l.reason ∷ fields_reason l.schema l.in_struct (earlier ++ map field (take l.place l.fields)) (map field (drop l.place l.fields)) ∷ []))

@@ -1,9 +1,10 @@
-use Rattle.std.proofs.Common.{length}
+use Rattle.std.proofs.Common.{◌≡◌, ℕ, Some, Contains, length}
 use Rattle.nif_reasons.specs.Ways.{IsAt}
 use Rattle.nif_reasons.proofs.ways.back_to.Given as goal
 
-abbrev pub invariant-loop-parent : goal.invariant-loop-parent
-invariant-loop-parent l = IsAt l.schema l.way.stack.items l.way.line
+abbrev pub invariant-up : goal.invariant-up
+invariant-up l =
+    IsAt l.schema l.way.stack.items l.way.line × ((number : ℕ) → l.parent ≡ Some number → Contains l.way.stack.items number)
 
-abbrev pub decreases-loop-parent : goal.decreases-loop-parent
-decreases-loop-parent l = length l.way.stack.items
+abbrev pub decreases-up : goal.decreases-up
+decreases-up l = length l.way.stack.items

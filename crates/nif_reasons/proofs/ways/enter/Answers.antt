@@ -1,4 +1,4 @@
-use Rattle.std.proofs.Common.{◌++◌, [], None, Option, false, map, sym, ap, subst, ◌∙◌}
+use Rattle.std.proofs.Common.{◌++◌, ◌∷◌, [], None, Option, false, map, sym, ap, subst, ◌∙◌}
 use Rattle.std.specs.Option.{option_map_or}
 use Rattle.nif_schema.specs.Declaration.{Declaration, field}
 use Rattle.nif_schema.specs.Reasons as spec
@@ -27,5 +27,5 @@ returns-clause-reason c =
     let own = ap (λ (o : Option Declaration). option_map_or (λ d. d.fields) o []) c.decl-decl.ensures in
     let kind = c.is_struct-in_struct.ensures ∙ sym (ap (λ (o : Option Declaration). option_map_or (λ d. is_struct d.what) o false) c.decl-decl.ensures) in
     let added = c.in-Ok.ensures (fields_on S old) c.requires.at.line in
-    added.0 ∙ ap (λ b. spec.fields_reason S b (fields_on S old) (map field c.decl-decl.result.now.fields)) kind
-    ∙ ap (spec.fields_reason S (has_struct S c.args.number) (fields_on S old)) (sym own)
+    added.0 ∙ ap (λ b. spec.first_reason (c.args.so_far ∷ spec.fields_reason S b (fields_on S old) (map field c.decl-decl.result.now.fields) ∷ [])) kind
+    ∙ ap (λ l. spec.first_reason (c.args.so_far ∷ spec.fields_reason S (has_struct S c.args.number) (fields_on S old) l ∷ [])) (sym own)
