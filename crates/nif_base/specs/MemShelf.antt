@@ -43,6 +43,7 @@ piece_of s = s.piece
 some_is_none : {A : Type 0} {x : A} → ◌≡◌ {A = Option A} (Some x) None → ⊥
 some_is_none e = cc
 
-pub no_input_left : (files : MemFiles) (input : Option (Vec ℕ Global)) (bytes : List ℕ) (d : Desk) → Some (desk_of files input) ≡ Some d → d.input ≡ None → Some (rest_under input bytes) ≡ Some []
+pub no_input_left : (files : MemFiles) (input : Option (Vec ℕ Global)) (bytes : List ℕ) (d : Desk)
+    → Some (desk_of files input) ≡ Some d → d.input ≡ None → Some (rest_under input bytes) ≡ Some []
 no_input_left files None bytes d e f = refl
 no_input_left files (Some n) bytes d e f = absurd (some_is_none (ap (λ o. option_and_then (λ d. d.input) o) e ∙ f))

@@ -60,7 +60,8 @@ abbrev mutual
 abbrev node_back : ℕ → Gv → Members → Node
 node_back zero g members = Num (num (first g)) (flag_back (num (first (second g)))) (num (second (second g)))
 node_back (suc zero) g members = Line (bytes_back g)
-node_back (suc (suc zero)) g members = Ref (flag_back (num (first g))) (place_back (first (second g))) (place_back (second (second g)))
+node_back (suc (suc zero)) g members =
+    Ref (flag_back (num (first g))) (place_back (first (second g))) (place_back (second (second g)))
 node_back (suc (suc (suc zero))) g members = Text (place_back g)
 node_back (suc (suc (suc (suc zero)))) g members = Bytes (bytes_back g)
 node_back (suc (suc (suc (suc (suc zero))))) g members = Group members
@@ -116,7 +117,9 @@ mutual
 
   pub members_again : (members : Members) → back_in (code_in members) ≡ members
   members_again End = refl
-  members_again (Here node rest) = member_again node (back (code node)) (back_in (code_in rest)) ∙ ap₂ (λ m r. Here m r) (node_again node) (members_again rest)
+  members_again (Here node rest) =
+      member_again node (back (code node)) (back_in (code_in rest))
+      ∙ ap₂ (λ m r. Here m r) (node_again node) (members_again rest)
   members_again (Absent rest) = ap (λ x. Absent x) (members_again rest)
 
 abbrev pub coded_node : Coded Node

@@ -63,7 +63,8 @@ pub record Opens (name : List ℕ) (left : Option (List ℕ)) (desk : Desk) : Ty
 
 -- where the call failed it is the last refusal, if one is told; else that stays
 abbrev pub Refuses : {T E : Type 0} → Kind → List ℕ → Option Refusal → Option Refusal → Result T E → Type 0
-Refuses kind name old new result = MatchResult result (λ _. new ≡ old) (λ _. IfSome new (λ r. (r.kind ≡ kind) × (r.name ≡ name)))
+Refuses kind name old new result =
+    MatchResult result (λ _. new ≡ old) (λ _. IfSome new (λ r. (r.kind ≡ kind) × (r.name ≡ name)))
 
 -- ---- laws
 
@@ -104,7 +105,8 @@ insert_same m k v is = names_alike _ _ (λ q. get-put m k v q ∙
       | false ↦ λ e. refl
     ] refl)
 
-grown_at : (m : Files) (k bs : List ℕ) (o : Option (List ℕ)) → get m k ≡ o → grown m k bs ≡ option_map_or (λ old. insert m k (old ++ bs)) o m
+grown_at : (m : Files) (k bs : List ℕ) (o : Option (List ℕ)) → get m k ≡ o
+    → grown m k bs ≡ option_map_or (λ old. insert m k (old ++ bs)) o m
 unfolding grown
 grown_at m k bs o e = ap (λ o. option_map_or (λ old. insert m k (old ++ bs)) o m) e
 
@@ -112,8 +114,10 @@ grown_none : (m : Files) (k : List ℕ) (o : Option (List ℕ)) → get m k ≡ 
 grown_none m k None e = grown_at m k [] None e
 grown_none m k (Some old) e = grown_at m k [] (Some old) e ∙ ap (insert m k) (append-nil old) ∙ insert_same m k old e
 
-grown_joined : (m : Files) (k x y : List ℕ) (o : Option (List ℕ)) → get m k ≡ o → grown (grown m k x) k y ≡ grown m k (x ++ y)
-grown_joined m k x y None e = ap (λ n. grown n k y) (grown_at m k x None e) ∙ grown_at m k y None e ∙ sym (grown_at m k (x ++ y) None e)
+grown_joined : (m : Files) (k x y : List ℕ) (o : Option (List ℕ)) → get m k ≡ o
+    → grown (grown m k x) k y ≡ grown m k (x ++ y)
+grown_joined m k x y None e =
+    ap (λ n. grown n k y) (grown_at m k x None e) ∙ grown_at m k y None e ∙ sym (grown_at m k (x ++ y) None e)
 grown_joined m k x y (Some old) e =
     ap (λ n. grown n k y) (grown_at m k x (Some old) e)
     ∙ grown_at (insert m k (old ++ x)) k y (Some (old ++ x)) (get-put_same m k (old ++ x))
@@ -126,7 +130,8 @@ unfolding files_written
 files_written-nil m None = refl
 files_written-nil m (Some k) = grown_none m k _ refl
 
-pub files_written-joined : (m : Files) (output : Option (List ℕ)) (x y : List ℕ) → files_written (files_written m output x) output y ≡ files_written m output (x ++ y)
+pub files_written-joined : (m : Files) (output : Option (List ℕ)) (x y : List ℕ)
+    → files_written (files_written m output x) output y ≡ files_written m output (x ++ y)
 unfolding files_written
 files_written-joined m None x y = refl
 files_written-joined m (Some k) x y = grown_joined m k x y _ refl
@@ -139,14 +144,16 @@ files_written-created m k bs = grown_at (insert m k []) k bs (Some []) (get-put_
 -- more bytes for the file that is the output
 pub written_more : (m : Files) (k old bs : List ℕ) → files_written (insert m k old) (Some k) bs ≡ insert m k (old ++ bs)
 unfolding files_written
-written_more m k old bs = grown_at (insert m k old) k bs (Some old) (get-put_same m k old) ∙ insert_twice m k old (old ++ bs)
+written_more m k old bs =
+    grown_at (insert m k old) k bs (Some old) (get-put_same m k old) ∙ insert_twice m k old (old ++ bs)
 
 pub written_nowhere : (m : Files) (bs : List ℕ) → files_written m None bs ≡ m
 unfolding files_written
 written_nowhere m bs = refl
 
 -- two files of different names, in either order
-pub insert_swap : (m : Files) (k v l w : List ℕ) → eq_by_cmp name_cmp k l ≡ false → insert (insert m k v) l w ≡ insert (insert m l w) k v
+pub insert_swap : (m : Files) (k v l w : List ℕ) → eq_by_cmp name_cmp k l ≡ false
+    → insert (insert m k v) l w ≡ insert (insert m l w) k v
 insert_swap m k v l w d = names_alike _ _ (λ q.
     get-put (insert m k v) l w q ∙ ap (cond (eq_by_cmp name_cmp q l) (Some w)) (get-put m k v q)
     ∙ elim (eq_by_cmp name_cmp q k) as (λ b. eq_by_cmp name_cmp q k ≡ b → cond (eq_by_cmp name_cmp q l) (Some w) (cond b (Some v) (get m q)) ≡ cond b (Some v) (cond (eq_by_cmp name_cmp q l) (Some w) (get m q))) [

@@ -51,7 +51,8 @@ written_none : (d : Option Desk) → d ≡ option_map (written []) d
 written_none None = refl
 written_none (Some d) = ap (λ files. Some (record d { files = files })) (sym (files_written-nil d.files d.output))
 
-written_twice : (d : Option Desk) (x y : List ℕ) → option_map (written y) (option_map (written x) d) ≡ option_map (written (x ++ y)) d
+written_twice : (d : Option Desk) (x y : List ℕ)
+    → option_map (written y) (option_map (written x) d) ≡ option_map (written (x ++ y)) d
 written_twice None x y = refl
 written_twice (Some d) x y = ap (λ files. Some (record d { files = files })) (files_written-joined d.files d.output x y)
 
@@ -64,7 +65,8 @@ appended_twice None x y = refl
 appended_twice (Some t) x y = ap Some (append_assoc t x y)
 
 -- nothing was written
-pub grew_none : (u v : View) → v.left ≡ u.left → v.desk ≡ u.desk → v.taken ≡ u.taken → v.refused ≡ u.refused → u.reads ≤ v.reads → u.writes ≤ v.writes → u.opens ≤ v.opens → Grew u [] v
+pub grew_none : (u v : View) → v.left ≡ u.left → v.desk ≡ u.desk → v.taken ≡ u.taken → v.refused ≡ u.refused
+    → u.reads ≤ v.reads → u.writes ≤ v.writes → u.opens ≤ v.opens → Grew u [] v
 grew_none u v left desk taken refused reads writes opens =
     record { left = left; desk = desk ∙ written_none u.desk; taken = taken ∙ appended_none u.taken; refused = refused; reads = reads; writes = writes; opens = opens }
 
@@ -74,7 +76,9 @@ grew_same v = grew_none v v refl refl refl refl (omega arith) (omega arith) (ome
 pub grew_joined : (u v w : View) (x y z : List ℕ) → Grew u x v → Grew v y w → x ++ y ≡ z → Grew u z w
 grew_joined u v w x y z p q e = record {
   left = q.left ∙ p.left;
-  desk = q.desk ∙ ap (option_map (written y)) p.desk ∙ written_twice u.desk x y ∙ ap (λ bs. option_map (written bs) u.desk) e;
+  desk =
+      q.desk ∙ ap (option_map (written y)) p.desk ∙ written_twice u.desk x y
+      ∙ ap (λ bs. option_map (written bs) u.desk) e;
   taken = q.taken ∙ ap (λ t. appended t y) p.taken ∙ appended_twice u.taken x y ∙ ap (appended u.taken) e;
   refused = q.refused ∙ p.refused;
   reads = omega arith;

@@ -23,7 +23,8 @@ pieces_of text = slice_split (λ c. c == 46) text
 -- the values of these pieces, or none where one is no part
 abbrev pub values_of : List (List ℕ) → Option (List ℕ)
 values_of [] = Some []
-values_of (piece ∷ pieces) = option_and_then (λ value. option_map (λ values. value ∷ values) (values_of pieces)) (part_of piece)
+values_of (piece ∷ pieces) =
+    option_and_then (λ value. option_map (λ values. value ∷ values) (values_of pieces)) (part_of piece)
 
 -- the number that has these bytes and behind them zeros, or none where they are more than four
 unfoldable pub number_of : List ℕ → Option ℕ

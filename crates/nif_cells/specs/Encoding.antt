@@ -49,7 +49,8 @@ abbrev mutual
   pub contents : Node → List Content
   contents (Num width little bits) = Number width little bits ∷ []
   contents (Line bytes) = content.Line (length bytes) ∷ byte_cells bytes
-  contents (Ref strong wanted target) = content.Reference (record { strong = strong; wanted = wanted; target = target }) ∷ []
+  contents (Ref strong wanted target) =
+      content.Reference (record { strong = strong; wanted = wanted; target = target }) ∷ []
   contents (Text index) = content.Text index ∷ []
   contents (Bytes bytes) = content.Bytes (length bytes) ∷ byte_cells bytes
   contents (Group members) = content.Group (count members) ∷ contents_in members ++ content.End ∷ []

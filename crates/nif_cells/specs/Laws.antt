@@ -32,7 +32,9 @@ pub record IsIndexed (n : Node) (k : ℕ) : Type 0 where
 
 -- with another target in the cell of the k-th reference, the cells are those of the node with that target
 abbrev pub TakesTarget : Node → ℕ → Option ℕ → Type 0
-TakesTarget n k target = (place : ℕ) (reference : Reference) → slice_get (refs n) k ≡ Some reference → slice_get (places_from 0 (contents n)) k ≡ Some place
+TakesTarget n k target =
+    (place : ℕ) (reference : Reference) → slice_get (refs n) k ≡ Some reference
+    → slice_get (places_from 0 (contents n)) k ≡ Some place
     → slice_set (tree_contents n) place (content.Reference (aimed target (view_of reference))) ≡ tree_contents (with_target k target n)
 
 -- what is open is read from its cells; of a run of bytes, what stands in full cells

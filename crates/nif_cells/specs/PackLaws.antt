@@ -36,13 +36,15 @@ from_left p (b ∷ rest) l = from_left (packed_more p b) rest (more_left p b l)
 pub packed_left : (bytes : List ℕ) → (packed bytes).left < 8
 packed_left bytes = from_left none bytes (lit< tt)
 
-more_count : (p : Packed) (byte : ℕ) → 8 * length (packed_more p byte).words + (packed_more p byte).left ≡ 8 * length p.words + p.left + 1
+more_count : (p : Packed) (byte : ℕ)
+    → 8 * length (packed_more p byte).words + (packed_more p byte).left ≡ 8 * length p.words + p.left + 1
 more_count p byte = elim (eqb_tells p.left 7) [
   | inl e ↦ rw e.0 (let is = e.1 in omega (arith, length-append p.words ((p.bits + byte * 256 ^ 7) ∷ [])))
   | inr e ↦ rw e.0 (omega arith)
 ]
 
-from_count : (p : Packed) (bytes : List ℕ) → 8 * length (packed_from p bytes).words + (packed_from p bytes).left ≡ 8 * length p.words + p.left + length bytes
+from_count : (p : Packed) (bytes : List ℕ)
+    → 8 * length (packed_from p bytes).words + (packed_from p bytes).left ≡ 8 * length p.words + p.left + length bytes
 from_count p [] = omega arith
 from_count p (b ∷ rest) =
     let more = more_count p b in
@@ -91,7 +93,8 @@ pub packed_fits : (bytes : List ℕ) → All (λ b. b < 256) bytes → All (λ w
 packed_fits bytes small = (from_bits none bytes small none_bits).words
 
 -- the byte above the others is the last
-low_next : (k n byte : ℕ) → n < 256 ^ k → byte < 256 → low_first (suc k) (n + byte * 256 ^ k) ≡ low_first k n ++ byte ∷ []
+low_next : (k n byte : ℕ) → n < 256 ^ k → byte < 256
+    → low_first (suc k) (n + byte * 256 ^ k) ≡ low_first k n ++ byte ∷ []
 low_next zero n byte h b = ap (λ m. m ∷ []) (omega arith)
 low_next (suc k) n byte h b =
     let wide : byte * 256 ^ suc k ≡ byte * 256 ^ k * 256 = ap (λ m. byte * m) (pow-suc 256 k) ∙ sym (mul_assoc byte (256 ^ k) 256) in
@@ -105,7 +108,8 @@ low_next (suc k) n byte h b =
 -- the bytes of full cells, one more cell behind
 unpacked_next : (ws : List ℕ) (w : ℕ) → unpacked (ws ++ w ∷ []) ≡ unpacked ws ++ low_first 8 w
 unpacked_next [] w = append-nil (low_first 8 w)
-unpacked_next (v ∷ ws) w = ap (λ l. low_first 8 v ++ l) (unpacked_next ws w) ∙ sym (append_assoc (low_first 8 v) (unpacked ws) (low_first 8 w))
+unpacked_next (v ∷ ws) w =
+    ap (λ l. low_first 8 v ++ l) (unpacked_next ws w) ∙ sym (append_assoc (low_first 8 v) (unpacked ws) (low_first 8 w))
 
 abbrev whole : Packed → List ℕ
 whole p = unpacked p.words ++ low_first p.left p.bits
@@ -117,13 +121,16 @@ more_whole p byte b h = elim (eqb_tells p.left 7) [
       let last : low_first 8 (p.bits + byte * 256 ^ 7) ≡ low_first p.left p.bits ++ byte ∷ [] =
       low_next 7 p.bits byte full b ∙ ap (λ k. low_first k p.bits ++ byte ∷ []) (sym e.1) in
       rw e.0 (
-      append-nil (unpacked (p.words ++ (p.bits + byte * 256 ^ 7) ∷ [])) ∙ unpacked_next p.words (p.bits + byte * 256 ^ 7)
-      ∙ ap (λ l. unpacked p.words ++ l) last ∙ sym (append_assoc (unpacked p.words) (low_first p.left p.bits) (byte ∷ []))
+      append-nil (unpacked (p.words ++ (p.bits + byte * 256 ^ 7) ∷ []))
+      ∙ unpacked_next p.words (p.bits + byte * 256 ^ 7)
+      ∙ ap (λ l. unpacked p.words ++ l) last
+      ∙ sym (append_assoc (unpacked p.words) (low_first p.left p.bits) (byte ∷ []))
       )
   | inr e ↦ rw e.0 (ap (λ l. unpacked p.words ++ l) (low_next p.left p.bits byte h.bits b) ∙ sym (append_assoc (unpacked p.words) (low_first p.left p.bits) (byte ∷ [])))
 ]
 
-from_whole : (p : Packed) (bytes : List ℕ) → All (λ b. b < 256) bytes → AreBits p → whole (packed_from p bytes) ≡ whole p ++ bytes
+from_whole : (p : Packed) (bytes : List ℕ) → All (λ b. b < 256) bytes → AreBits p
+    → whole (packed_from p bytes) ≡ whole p ++ bytes
 from_whole p [] small h = sym (append-nil (whole p))
 from_whole p (b ∷ rest) small h =
     let here = All-head (λ b. b < 256) b rest small in
@@ -131,17 +138,22 @@ from_whole p (b ∷ rest) small h =
     ∙ ap (λ l. l ++ rest) (more_whole p b here h) ∙ append_assoc (whole p) (b ∷ []) rest
 
 -- the bytes of the full cells and those that are left
-pub unpacked_whole : (bytes : List ℕ) → All (λ b. b < 256) bytes → unpacked (packed bytes).words ++ low_first (packed bytes).left (packed bytes).bits ≡ bytes
+pub unpacked_whole : (bytes : List ℕ) → All (λ b. b < 256) bytes
+    → unpacked (packed bytes).words ++ low_first (packed bytes).left (packed bytes).bits ≡ bytes
 unpacked_whole bytes small = from_whole none bytes small none_bits
 
 pub bytes_at-words : (ws : List ℕ) (rest : List Content) → bytes_at (words ws ++ rest) ≡ unpacked ws ++ bytes_at rest
 bytes_at-words [] rest = refl
-bytes_at-words (w ∷ ws) rest = ap (λ l. low_first 8 w ++ l) (bytes_at-words ws rest) ∙ sym (append_assoc (low_first 8 w) (unpacked ws) (bytes_at rest))
+bytes_at-words (w ∷ ws) rest =
+    ap (λ l. low_first 8 w ++ l) (bytes_at-words ws rest)
+    ∙ sym (append_assoc (low_first 8 w) (unpacked ws) (bytes_at rest))
 
-pub bytes_at-cells : (bytes : List ℕ) (rest : List Content) → All (λ b. b < 256) bytes → bytes_at (byte_cells bytes ++ rest) ≡ bytes
+pub bytes_at-cells : (bytes : List ℕ) (rest : List Content) → All (λ b. b < 256) bytes
+    → bytes_at (byte_cells bytes ++ rest) ≡ bytes
 bytes_at-cells bytes rest small =
     ap bytes_at (append_assoc (words (packed bytes).words) (Tail (packed bytes).left (packed bytes).bits ∷ []) rest)
-    ∙ bytes_at-words (packed bytes).words (Tail (packed bytes).left (packed bytes).bits ∷ rest) ∙ unpacked_whole bytes small
+    ∙ bytes_at-words (packed bytes).words (Tail (packed bytes).left (packed bytes).bits ∷ rest)
+    ∙ unpacked_whole bytes small
 
 pub byte_cells-length : (bytes : List ℕ) → length (byte_cells bytes) ≡ length bytes / 8 + 1
 byte_cells-length bytes =

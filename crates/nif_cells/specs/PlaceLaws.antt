@@ -16,7 +16,8 @@ views [] = []
 views (content.Reference view ∷ rest) = view ∷ views rest
 views (_ ∷ rest) = views rest
 
-pub places-more : (at : ℕ) (a b : List Content) → places_from at (a ++ b) ≡ places_from at a ++ places_from (at + length a) b
+pub places-more : (at : ℕ) (a b : List Content)
+    → places_from at (a ++ b) ≡ places_from at a ++ places_from (at + length a) b
 places-more at [] b = ap (λ n. places_from n b) (omega arith)
 places-more at (c ∷ rest) b =
     let tail : places_from (suc at) (rest ++ b) ≡ places_from (suc at) rest ++ places_from (at + suc (length rest)) b =
@@ -36,7 +37,9 @@ views-words [] = refl
 views-words (w ∷ ws) = views-words ws
 
 pub views-bytes : (bytes : List ℕ) → views (byte_cells bytes) ≡ []
-views-bytes bytes = views-append (words (packed bytes).words) (Tail (packed bytes).left (packed bytes).bits ∷ []) ∙ ap (λ l. l ++ []) (views-words (packed bytes).words)
+views-bytes bytes =
+    views-append (words (packed bytes).words) (Tail (packed bytes).left (packed bytes).bits ∷ [])
+    ∙ ap (λ l. l ++ []) (views-words (packed bytes).words)
 
 pub views-index : (number : ℕ) (places : List ℕ) → views (index_from number places) ≡ []
 views-index number [] = refl
@@ -50,8 +53,11 @@ mutual
   views-node (Ref strong wanted target) = refl
   views-node (Text index) = refl
   views-node (Bytes bytes) = views-bytes bytes
-  views-node (Group members) = views-append (contents_in members) (content.End ∷ []) ∙ append-nil (views (contents_in members)) ∙ views-members members
-  views-node (Row items) = views-append (contents_in items) (content.End ∷ []) ∙ append-nil (views (contents_in items)) ∙ views-members items
+  views-node (Group members) =
+      views-append (contents_in members) (content.End ∷ []) ∙ append-nil (views (contents_in members))
+      ∙ views-members members
+  views-node (Row items) =
+      views-append (contents_in items) (content.End ∷ []) ∙ append-nil (views (contents_in items)) ∙ views-members items
 
   pub views-members : (members : Members) → views (contents_in members) ≡ map view_of (refs_in members)
   views-members End = refl
@@ -90,13 +96,15 @@ pub record IsThere (at : ℕ) (cs : List Content) (k p : ℕ) : Type 0 where
   pub cell : slice_get cs steps ≡ Some (content.Reference view)
   pub kth : slice_get (views cs) k ≡ Some view
 
-further : (at : ℕ) (c : Content) (rest : List Content) (k m p : ℕ) → IsThere (suc at) rest k p → (slice_get (views rest) k ≡ slice_get (views (c ∷ rest)) m) → IsThere at (c ∷ rest) m p
+further : (at : ℕ) (c : Content) (rest : List Content) (k m p : ℕ) → IsThere (suc at) rest k p
+    → (slice_get (views rest) k ≡ slice_get (views (c ∷ rest)) m) → IsThere at (c ∷ rest) m p
 further at c rest k m p there same = record { steps = suc there.steps; view = there.view; place = there.place ∙ omega arith; cell = there.cell; kth = sym same ∙ there.kth }
 
 pub there : (at : ℕ) (cs : List Content) (k p : ℕ) → slice_get (places_from at cs) k ≡ Some p → IsThere at cs k p
 there at [] k p is = absurd (cc)
 there at (content.Reference view ∷ rest) zero p is = let same : at ≡ p = cc in record { steps = 0; view = view; place = omega arith; cell = refl; kth = refl }
-there at (content.Reference view ∷ rest) (suc k) p is = further at (content.Reference view) rest k (suc k) p (there (suc at) rest k p is) refl
+there at (content.Reference view ∷ rest) (suc k) p is =
+    further at (content.Reference view) rest k (suc k) p (there (suc at) rest k p is) refl
 there at (c ∷ rest) k p is = further at c rest k k p (there (suc at) rest k p is) refl
 
 some : {A : Type 0} → (xs : List A) (k : ℕ) → k < length xs → (x : A) × (slice_get xs k ≡ Some x)
@@ -105,7 +113,8 @@ some (x ∷ xs) zero l = (x, refl)
 some (x ∷ xs) (suc k) l = some xs k (omega arith)
 
 -- at the place of a reference stands that reference
-pub place-is : (n : Node) (k p : ℕ) (r : Reference) → slice_get (refs n) k ≡ Some r → slice_get (places_from 0 (contents n)) k ≡ Some p
+pub place-is : (n : Node) (k p : ℕ) (r : Reference) → slice_get (refs n) k ≡ Some r
+    → slice_get (places_from 0 (contents n)) k ≡ Some p
     → (p < length (contents n)) × (slice_get (contents n) p ≡ Some (content.Reference (view_of r)))
 place-is n k p r is at =
     let t = there 0 (contents n) k p at in
@@ -117,7 +126,9 @@ place-is n k p r is at =
     (slice_get_within (contents n) p (content.Reference (view_of r)) cell, cell)
 
 pub place-there : (n : Node) (k : ℕ) → k < length (refs n)
-    → (p : ℕ) × (r : Reference) × (slice_get (places_from 0 (contents n)) k ≡ Some p) × (slice_get (refs n) k ≡ Some r) × (p < length (contents n)) × (slice_get (contents n) p ≡ Some (content.Reference (view_of r)))
+    → (p : ℕ) × (r : Reference) × (slice_get (places_from 0 (contents n)) k ≡ Some p)
+    × (slice_get (refs n) k ≡ Some r) × (p < length (contents n))
+    × (slice_get (contents n) p ≡ Some (content.Reference (view_of r)))
 place-there n k l =
     let r = some (refs n) k l in
     let p = some (places_from 0 (contents n)) k (let e = places-count 0 n in omega arith) in
@@ -128,12 +139,14 @@ pub index-length : (number : ℕ) (places : List ℕ) → length (index_from num
 index-length number [] = refl
 index-length number (place ∷ rest) = ap suc (index-length (suc number) rest)
 
-pub index-at : (number : ℕ) (places : List ℕ) (k p : ℕ) → slice_get places k ≡ Some p → slice_get (index_from number places) k ≡ Some (Place (number + k + 1) p)
+pub index-at : (number : ℕ) (places : List ℕ) (k p : ℕ) → slice_get places k ≡ Some p
+    → slice_get (index_from number places) k ≡ Some (Place (number + k + 1) p)
 index-at number [] k p at = absurd (cc)
 index-at number (place ∷ rest) zero p at =
     let same : place ≡ p = cc in
     ap (λ q. Some (Place (suc number) q)) same ∙ ap (λ m. Some (Place m p)) (omega arith)
-index-at number (place ∷ rest) (suc k) p at = index-at (suc number) rest k p at ∙ ap (λ m. Some (Place m p)) (omega arith)
+index-at number (place ∷ rest) (suc k) p at =
+    index-at (suc number) rest k p at ∙ ap (λ m. Some (Place m p)) (omega arith)
 
 -- what stands behind others
 pub get-behind : {A : Type 0} → (a b : List A) (k : ℕ) → slice_get (a ++ b) (length a + k) ≡ slice_get b k
@@ -147,9 +160,11 @@ get-before (x ∷ a) b zero l = refl
 get-before (x ∷ a) b (suc k) l = get-before a b k (omega arith)
 
 -- the index of a tree
-pub tree-index : (n : Node) (k p : ℕ) → slice_get (places_from 0 (contents n)) k ≡ Some p → slice_get (tree_contents n) (length (contents n) + k) ≡ Some (Place (k + 1) p)
+pub tree-index : (n : Node) (k p : ℕ) → slice_get (places_from 0 (contents n)) k ≡ Some p
+    → slice_get (tree_contents n) (length (contents n) + k) ≡ Some (Place (k + 1) p)
 tree-index n k p at =
-    get-behind (contents n) (index_from 0 (places_from 0 (contents n))) k ∙ index-at 0 (places_from 0 (contents n)) k p at
+    get-behind (contents n) (index_from 0 (places_from 0 (contents n))) k
+    ∙ index-at 0 (places_from 0 (contents n)) k p at
     ∙ ap (λ m. Some (Place m p)) (omega arith)
 
 pub tree-length : (n : Node) → length (tree_contents n) ≡ length (contents n) + length (refs n)
@@ -182,12 +197,14 @@ mutual
   placeless-node (Ref strong wanted target) = tt
   placeless-node (Text index) = tt
   placeless-node (Bytes bytes) = placeless-bytes bytes
-  placeless-node (Group members) = placeless-append (contents_in members) (content.End ∷ []) (placeless-members members) tt
+  placeless-node (Group members) =
+      placeless-append (contents_in members) (content.End ∷ []) (placeless-members members) tt
   placeless-node (Row items) = placeless-append (contents_in items) (content.End ∷ []) (placeless-members items) tt
 
   placeless-members : (members : Members) → IsPlaceless (contents_in members)
   placeless-members End = tt
-  placeless-members (Here n rest) = placeless-append (contents n) (contents_in rest) (placeless-node n) (placeless-members rest)
+  placeless-members (Here n rest) =
+      placeless-append (contents n) (contents_in rest) (placeless-node n) (placeless-members rest)
   placeless-members (Absent rest) = placeless-members rest
 
 placeless-at : (cs : List Content) (k number place : ℕ) → IsPlaceless cs → slice_get cs k ≢ Some (Place number place)
@@ -200,7 +217,8 @@ placeless-at (c ∷ rest) (suc k) number place h = placeless-at rest k number pl
 pub no-place : (n : Node) (k number place : ℕ) → slice_get (contents n) k ≢ Some (Place number place)
 no-place n k number place = placeless-at (contents n) k number place (placeless-node n)
 
-pub last-place : (n : Node) → 0 < length (refs n) → (p : ℕ) × (slice_get (tree_contents n) (length (tree_contents n) - 1) ≡ Some (Place (length (refs n)) p))
+pub last-place : (n : Node) → 0 < length (refs n)
+    → (p : ℕ) × (slice_get (tree_contents n) (length (tree_contents n) - 1) ≡ Some (Place (length (refs n)) p))
 last-place n has =
     let p = some (places_from 0 (contents n)) (length (refs n) - 1) (let e = places-count 0 n in omega arith) in
     let long = tree-length n in
@@ -210,7 +228,8 @@ last-place n has =
 
 pub no-index : (n : Node) → length (refs n) ≡ 0 → tree_contents n ≡ contents n
 no-index n none =
-    ap (λ l. contents n ++ index_from 0 l) (nil_from_length (places_from 0 (contents n)) (places-count 0 n ∙ none)) ∙ append-nil (contents n)
+    ap (λ l. contents n ++ index_from 0 l) (nil_from_length (places_from 0 (contents n)) (places-count 0 n ∙ none))
+    ∙ append-nil (contents n)
 
 pub some-cell : (n : Node) → 0 < length (contents n)
 some-cell (Num width little bits) = omega arith

@@ -83,8 +83,12 @@ in_cells (InRow items ∷ outer) = InRow items ∷ outer
 
 -- a line or a run of so many bytes stands before its cells
 abbrev pub IsFollowed : Content → List Content → Type 0
-IsFollowed (content.Line len) rest = (bytes : List ℕ) × (behind : List Content) × (length bytes ≡ len) × All (λ b. b < 256) bytes × (rest ≡ byte_cells bytes ++ behind)
-IsFollowed (content.Bytes len) rest = (bytes : List ℕ) × (behind : List Content) × (length bytes ≡ len) × All (λ b. b < 256) bytes × (rest ≡ byte_cells bytes ++ behind)
+IsFollowed (content.Line len) rest =
+    (bytes : List ℕ) × (behind : List Content) × (length bytes ≡ len) × All (λ b. b < 256) bytes
+    × (rest ≡ byte_cells bytes ++ behind)
+IsFollowed (content.Bytes len) rest =
+    (bytes : List ℕ) × (behind : List Content) × (length bytes ≡ len) × All (λ b. b < 256) bytes
+    × (rest ≡ byte_cells bytes ++ behind)
 IsFollowed _ rest = Unit {0}
 
 -- Behind each head of a line or of a run of bytes stand the cells of so many bytes.

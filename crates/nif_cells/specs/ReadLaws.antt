@@ -31,21 +31,29 @@ within level outer = record { building = record { top = None; levels = level ∷
 pub read_words : (before : List ℕ) (outer : List Level) (ws : List ℕ)
     → read_on (record { building = record { top = None; levels = InBytes before ∷ outer }; line = None }) (words ws) ≡ record { building = record { top = None; levels = InBytes (before ++ unpacked ws) ∷ outer }; line = None }
 read_words before outer [] = ap (λ b. within (InBytes b) outer) (sym (append-nil before))
-read_words before outer (w ∷ ws) = read_words (before ++ low_first 8 w) outer ws ∙ ap (λ b. within (InBytes b) outer) (append_assoc before (low_first 8 w) (unpacked ws))
+read_words before outer (w ∷ ws) =
+    read_words (before ++ low_first 8 w) outer ws
+    ∙ ap (λ b. within (InBytes b) outer) (append_assoc before (low_first 8 w) (unpacked ws))
 
 -- full cells of the bytes of a line
-pub line_words : (b : Building) (first : List ℕ) (ws : List ℕ) → read_on (record { building = b; line = Some first }) (words ws) ≡ record { building = b; line = Some (first ++ unpacked ws) }
+pub line_words : (b : Building) (first : List ℕ) (ws : List ℕ)
+    → read_on (record { building = b; line = Some first }) (words ws) ≡ record
+    { building = b; line = Some (first ++ unpacked ws) }
 line_words b first [] = ap (λ l. record { building = b; line = Some l }) (sym (append-nil first))
-line_words b first (w ∷ ws) = line_words b (first ++ low_first 8 w) ws ∙ ap (λ l. record { building = b; line = Some l }) (append_assoc first (low_first 8 w) (unpacked ws))
+line_words b first (w ∷ ws) =
+    line_words b (first ++ low_first 8 w) ws
+    ∙ ap (λ l. record { building = b; line = Some l }) (append_assoc first (low_first 8 w) (unpacked ws))
 
 -- all cells of a run of bytes
-bytes_whole : (bytes : List ℕ) (b : Building) → All (λ b. b < 256) bytes → read_on (clear (opened (InBytes []) b.levels)) (byte_cells bytes) ≡ clear (placed (Bytes bytes) b.levels)
+bytes_whole : (bytes : List ℕ) (b : Building) → All (λ b. b < 256) bytes
+    → read_on (clear (opened (InBytes []) b.levels)) (byte_cells bytes) ≡ clear (placed (Bytes bytes) b.levels)
 bytes_whole bytes b small =
     read_more (clear (opened (InBytes []) b.levels)) (words (packed bytes).words) (Tail (packed bytes).left (packed bytes).bits ∷ [])
     ∙ ap (λ r. next_read (Tail (packed bytes).left (packed bytes).bits) r) (read_words [] b.levels (packed bytes).words)
     ∙ ap (λ l. clear (placed (Bytes l) b.levels)) (unpacked_whole bytes small)
 
-line_whole : (bytes : List ℕ) (b : Building) → All (λ b. b < 256) bytes → read_on (record { building = b; line = Some [] }) (byte_cells bytes) ≡ clear (placed (Line bytes) b.levels)
+line_whole : (bytes : List ℕ) (b : Building) → All (λ b. b < 256) bytes
+    → read_on (record { building = b; line = Some [] }) (byte_cells bytes) ≡ clear (placed (Line bytes) b.levels)
 line_whole bytes b small =
     read_more (record { building = b; line = Some [] }) (words (packed bytes).words) (Tail (packed bytes).left (packed bytes).bits ∷ [])
     ∙ ap (λ r. next_read (Tail (packed bytes).left (packed bytes).bits) r) (line_words b [] (packed bytes).words)
@@ -68,7 +76,8 @@ beside_end End = refl
 beside_end (Here n rest) = ap (λ m. Here n m) (beside_end rest)
 beside_end (Absent rest) = ap (λ m. Absent m) (beside_end rest)
 
-beside_behind : (first : Members) (n : Node) (more : Members) → beside (behind first n) more ≡ beside first (Here n more)
+beside_behind : (first : Members) (n : Node) (more : Members)
+    → beside (behind first n) more ≡ beside first (Here n more)
 beside_behind End n more = refl
 beside_behind (Here m rest) n more = ap (λ r. Here m r) (beside_behind rest n more)
 beside_behind (Absent rest) n more = ap (λ r. Absent r) (beside_behind rest n more)
@@ -120,8 +129,10 @@ mutual
       ∙ read_row (behind first n) rest outer small.1
   read_row first (Absent rest) outer small = read_row (absent_behind first) rest outer small
 
-pub read_node : (n : Node) (r : Reading) → HasBytes n → r.line ≡ None → read_on r (contents n) ≡ record { building = placed n r.building.levels; line = None }
-read_node n r small line = ap (λ l. read_on (record { building = r.building; line = l }) (contents n)) line ∙ node_whole n r.building small
+pub read_node : (n : Node) (r : Reading) → HasBytes n → r.line ≡ None
+    → read_on r (contents n) ≡ record { building = placed n r.building.levels; line = None }
+read_node n r small line =
+    ap (λ l. read_on (record { building = r.building; line = l }) (contents n)) line ∙ node_whole n r.building small
 
 pub read_tree : (n : Node) → HasBytes n → building_in (tree_contents n) ≡ record { top = Some n; levels = [] }
 read_tree n small =

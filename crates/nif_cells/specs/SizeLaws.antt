@@ -20,10 +20,12 @@ mutual
   node-cells (Ref strong wanted target) = omega arith
   node-cells (Text index) = omega arith
   node-cells (Bytes bytes) = omega (arith, byte_cells-length bytes)
-  node-cells (Group members) = omega (arith, length-append (contents_in members) (content.End ∷ []), members-cells members)
+  node-cells (Group members) =
+      omega (arith, length-append (contents_in members) (content.End ∷ []), members-cells members)
   node-cells (Row items) = omega (arith, length-append (contents_in items) (content.End ∷ []), members-cells items)
 
-  pub members-cells : (members : Members) → length (contents_in members) + length (refs_in members) ≡ own_cells_in members
+  pub members-cells : (members : Members)
+      → length (contents_in members) + length (refs_in members) ≡ own_cells_in members
   members-cells End = omega arith
   members-cells (Here n rest) = omega (arith, length-append (contents n) (contents_in rest), length-append (refs n) (refs_in rest), node-cells n, members-cells rest)
   members-cells (Absent rest) = omega (arith, members-cells rest)
@@ -45,7 +47,8 @@ mutual
   cells-bound (Group members) = omega (arith, members-bound members)
   cells-bound (Row items) = omega (arith, members-bound items)
 
-  pub members-bound : (members : Members) → own_cells_in members ≤ 2 * nodes_in members + length (texts Little members) / 8
+  pub members-bound : (members : Members)
+      → own_cells_in members ≤ 2 * nodes_in members + length (texts Little members) / 8
   members-bound End = omega arith
   members-bound (Here n rest) =
       subst (λ l. own_cells n + own_cells_in rest ≤ 2 * (nodes n + nodes_in rest) + l / 8) (sym (length-append (text Little n) (texts Little rest)))
@@ -65,7 +68,8 @@ nodes-absent_behind End = omega arith
 nodes-absent_behind (Here m rest) = omega (arith, nodes-absent_behind rest)
 nodes-absent_behind (Absent rest) = omega (arith, nodes-absent_behind rest)
 
-pub bytes-behind : (first : Members) (n : Node) → length (texts Little (behind first n)) ≡ length (texts Little first) + bytes_of n
+pub bytes-behind : (first : Members) (n : Node)
+    → length (texts Little (behind first n)) ≡ length (texts Little first) + bytes_of n
 bytes-behind End n = omega (arith, length-append (text Little n) [])
 bytes-behind (Here m rest) n = omega (arith, length-append (text Little m) (texts Little (behind rest n)), length-append (text Little m) (texts Little rest), bytes-behind rest n)
 bytes-behind (Absent rest) n = bytes-behind rest n
@@ -86,7 +90,10 @@ count-absent_behind (Here m rest) = omega (arith, count-absent_behind rest)
 count-absent_behind (Absent rest) = omega (arith, count-absent_behind rest)
 
 -- what one level has in cells, its head and its end among them
-level-cells : (at : ℕ) (level : Level) → length (head_of level ∷ held_contents level) + length (places_from at (head_of level ∷ held_contents level)) + 1 ≤ 2 * nodes (node_of level) + bytes_of (node_of level) / 8
+level-cells : (at : ℕ) (level : Level)
+    → length (head_of level ∷ held_contents level) + length
+    (places_from at (head_of level ∷ held_contents level)) + 1 ≤ 2 * nodes (node_of level) + bytes_of
+    (node_of level) / 8
 level-cells at (InBytes bytes) =
     let none : length (places_from (suc at) (words (packed bytes).words)) ≡ 0 = ap length (places-none (suc at) (words (packed bytes).words) (views-words (packed bytes).words)) in
     omega (arith, length-map (packed bytes).words (λ b. Word b), packed_words bytes)
@@ -98,7 +105,9 @@ level-cells at (InRow items) =
     omega (arith, members-cells items, members-bound items)
 
 -- the cells of what is open, those of the index and of the ends that are still owed
-pub open-cells : (levels : List Level) → length (building_contents levels) + length (places_from 0 (building_contents levels)) + length levels ≤ 2 * nodes_open levels + bytes_open levels / 8
+pub open-cells : (levels : List Level)
+    → length (building_contents levels) + length
+    (places_from 0 (building_contents levels)) + length levels ≤ 2 * nodes_open levels + bytes_open levels / 8
 open-cells [] = omega arith
 open-cells (level ∷ outer) =
     let here = level-cells (0 + length (building_contents outer)) level in
@@ -110,5 +119,6 @@ open-cells (level ∷ outer) =
     (length (places_from (0 + length (building_contents outer)) own)) (length (places_from 0 (building_contents outer ++ own))) (length outer)
     (nodes (node_of level)) (nodes_open outer) (bytes_of (node_of level)) (bytes_open outer) (length-append (building_contents outer) own) places here rest
   where
-    sum : (a b ab p q pq l m n x y : ℕ) → ab ≡ a + b → pq ≡ p + q → b + q + 1 ≤ 2 * m + x / 8 → a + p + l ≤ 2 * n + y / 8 → ab + pq + suc l ≤ 2 * (m + n) + (x + y) / 8
+    sum : (a b ab p q pq l m n x y : ℕ) → ab ≡ a + b → pq ≡ p + q → b + q + 1 ≤ 2 * m + x / 8
+        → a + p + l ≤ 2 * n + y / 8 → ab + pq + suc l ≤ 2 * (m + n) + (x + y) / 8
     sum a b ab p q pq l m n x y eab epq hb ha = omega arith

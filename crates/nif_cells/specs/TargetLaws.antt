@@ -22,27 +22,34 @@ aimed_at target (content.Reference view ∷ rest) zero = content.Reference (aime
 aimed_at target (content.Reference view ∷ rest) (suc k) = content.Reference view ∷ aimed_at target rest k
 aimed_at target (c ∷ rest) k = c ∷ aimed_at target rest k
 
-aimed-front : (target : Option ℕ) (a b : List Content) (k : ℕ) → k < length (views a) → aimed_at target (a ++ b) k ≡ aimed_at target a k ++ b
+aimed-front : (target : Option ℕ) (a b : List Content) (k : ℕ) → k < length (views a)
+    → aimed_at target (a ++ b) k ≡ aimed_at target a k ++ b
 aimed-front target [] b k l = absurd (omega arith)
 aimed-front target (content.Reference view ∷ rest) b zero l = refl
-aimed-front target (content.Reference view ∷ rest) b (suc k) l = ap (λ r. content.Reference view ∷ r) (aimed-front target rest b k (omega arith))
+aimed-front target (content.Reference view ∷ rest) b (suc k) l =
+    ap (λ r. content.Reference view ∷ r) (aimed-front target rest b k (omega arith))
 aimed-front target (c ∷ rest) b k l = ap (λ r. c ∷ r) (aimed-front target rest b k l)
 
-aimed-behind : (target : Option ℕ) (a b : List Content) (k j : ℕ) → k ≡ length (views a) + j → aimed_at target (a ++ b) k ≡ a ++ aimed_at target b j
+aimed-behind : (target : Option ℕ) (a b : List Content) (k j : ℕ) → k ≡ length (views a) + j
+    → aimed_at target (a ++ b) k ≡ a ++ aimed_at target b j
 aimed-behind target [] b k j e = ap (λ n. aimed_at target b n) (omega arith)
 aimed-behind target (content.Reference view ∷ rest) b zero j e = absurd (omega arith)
-aimed-behind target (content.Reference view ∷ rest) b (suc k) j e = ap (λ r. content.Reference view ∷ r) (aimed-behind target rest b k j (omega arith))
+aimed-behind target (content.Reference view ∷ rest) b (suc k) j e =
+    ap (λ r. content.Reference view ∷ r) (aimed-behind target rest b k j (omega arith))
 aimed-behind target (c ∷ rest) b k j e = ap (λ r. c ∷ r) (aimed-behind target rest b k j e)
 
 -- setting the cell at its place is that
-aimed-set : (target : Option ℕ) (at : ℕ) (cs : List Content) (k j : ℕ) (view : RefView) → slice_get (places_from at cs) k ≡ Some (at + j) → slice_get cs j ≡ Some (content.Reference view)
+aimed-set : (target : Option ℕ) (at : ℕ) (cs : List Content) (k j : ℕ) (view : RefView)
+    → slice_get (places_from at cs) k ≡ Some (at + j) → slice_get cs j ≡ Some (content.Reference view)
     → slice_set cs j (content.Reference (aimed target view)) ≡ aimed_at target cs k
 aimed-set target at [] k j view place is = absurd (cc)
 aimed-set target at (content.Reference v ∷ rest) zero zero view place is =
     let same : v ≡ view = cc in
     ap (λ w. content.Reference (aimed target w) ∷ rest) (sym same)
-aimed-set target at (content.Reference v ∷ rest) zero (suc j) view place is = absurd (let same : at ≡ at + suc j = cc in omega arith)
-aimed-set target at (content.Reference v ∷ rest) (suc k) zero view place is = absurd (let t = there (suc at) rest k (at + 0) place in let e = t.place in omega arith)
+aimed-set target at (content.Reference v ∷ rest) zero (suc j) view place is =
+    absurd (let same : at ≡ at + suc j = cc in omega arith)
+aimed-set target at (content.Reference v ∷ rest) (suc k) zero view place is =
+    absurd (let t = there (suc at) rest k (at + 0) place in let e = t.place in omega arith)
 aimed-set target at (content.Reference v ∷ rest) (suc k) (suc j) view place is =
     let next : slice_get (places_from (suc at) rest) k ≡ Some (suc at + j) = place ∙ ap (λ n. Some n) (omega arith) in
     ap (λ r. content.Reference v ∷ r) (aimed-set target (suc at) rest k j view next is)
@@ -68,7 +75,8 @@ views_in-length : (members : Members) → length (views (contents_in members)) �
 views_in-length members = ap length (views-members members) ∙ length-map (refs_in members) _
 
 mutual
-  aimed-node : (n : Node) (k : ℕ) (target : Option ℕ) → k < length (refs n) → aimed_at target (contents n) k ≡ contents (with_target k target n)
+  aimed-node : (n : Node) (k : ℕ) (target : Option ℕ) → k < length (refs n)
+      → aimed_at target (contents n) k ≡ contents (with_target k target n)
   aimed-node (Num width little bits) k target l = absurd (omega arith)
   aimed-node (Line bytes) k target l = absurd (omega arith)
   aimed-node (Ref strong wanted old) zero target l = refl
@@ -82,7 +90,8 @@ mutual
       ap (λ r. content.Row (count items) ∷ r) (aimed-front target (contents_in items) (content.End ∷ []) k (let e = views_in-length items in omega arith))
       ∙ ap₂ (λ c r. content.Row c ∷ r ++ content.End ∷ []) (sym (target-count items k target)) (aimed-members items k target l)
 
-  aimed-members : (members : Members) (k : ℕ) (target : Option ℕ) → k < length (refs_in members) → aimed_at target (contents_in members) k ≡ contents_in (with_target_in k target members)
+  aimed-members : (members : Members) (k : ℕ) (target : Option ℕ) → k < length (refs_in members)
+      → aimed_at target (contents_in members) k ≡ contents_in (with_target_in k target members)
   aimed-members End k target l = absurd (omega arith)
   aimed-members (Here n rest) k target l = elim (leb_tells (suc k) (length (refs n))) [
     | inl e ↦ rw e.0 (
@@ -101,7 +110,8 @@ below [] k x e = absurd (cc)
 below (y ∷ xs) zero x e = omega arith
 below (y ∷ xs) (suc k) x e = let more = below xs k x e in omega arith
 
-pub target-contents : (n : Node) (k p : ℕ) (target : Option ℕ) (view : RefView) → slice_get (places_from 0 (contents n)) k ≡ Some p → slice_get (contents n) p ≡ Some (content.Reference view)
+pub target-contents : (n : Node) (k p : ℕ) (target : Option ℕ) (view : RefView)
+    → slice_get (places_from 0 (contents n)) k ≡ Some p → slice_get (contents n) p ≡ Some (content.Reference view)
     → slice_set (contents n) p (content.Reference (record { strong = view.strong; wanted = view.wanted; target = target })) ≡ contents (with_target k target n)
 target-contents n k p target view at is =
     aimed-set target 0 (contents n) k p view (at ∙ ap (λ m. Some m) (omega arith)) is
@@ -109,7 +119,8 @@ target-contents n k p target view at is =
 
 -- as many cells as before, and references at the same places
 mutual
-  target-length : (n : Node) (k : ℕ) (target : Option ℕ) → length (contents (with_target k target n)) ≡ length (contents n)
+  target-length : (n : Node) (k : ℕ) (target : Option ℕ)
+      → length (contents (with_target k target n)) ≡ length (contents n)
   target-length (Num width little bits) k target = refl
   target-length (Line bytes) k target = refl
   target-length (Ref strong wanted old) k target = refl
@@ -118,7 +129,8 @@ mutual
   target-length (Group members) k target = omega (arith, length-append (contents_in (with_target_in k target members)) (content.End ∷ []), length-append (contents_in members) (content.End ∷ []), target_in-length members k target)
   target-length (Row items) k target = omega (arith, length-append (contents_in (with_target_in k target items)) (content.End ∷ []), length-append (contents_in items) (content.End ∷ []), target_in-length items k target)
 
-  target_in-length : (members : Members) (k : ℕ) (target : Option ℕ) → length (contents_in (with_target_in k target members)) ≡ length (contents_in members)
+  target_in-length : (members : Members) (k : ℕ) (target : Option ℕ)
+      → length (contents_in (with_target_in k target members)) ≡ length (contents_in members)
   target_in-length End k target = refl
   target_in-length (Here n rest) k target =
       elim (nat_lt k (length (refs n))) as (λ t. length (contents_in (if t then Here (with_target k target n) rest else Here n (with_target_in (k - length (refs n)) target rest))) ≡ length (contents n ++ contents_in rest)) [
@@ -128,13 +140,16 @@ mutual
   target_in-length (Absent rest) k target = ap suc (target_in-length rest k target)
 
 -- the places of some cells and then others, where the first are as many
-places-beside : (at : ℕ) (a a' b b' : List Content) → length a ≡ length a' → places_from at a ≡ places_from at a' → ((from : ℕ) → places_from from b ≡ places_from from b') → places_from at (a ++ b) ≡ places_from at (a' ++ b')
+places-beside : (at : ℕ) (a a' b b' : List Content) → length a ≡ length a' → places_from at a ≡ places_from at a'
+    → ((from : ℕ) → places_from from b ≡ places_from from b') → places_from at (a ++ b) ≡ places_from at (a' ++ b')
 places-beside at a a' b b' long first second =
-    places-more at a b ∙ ap (λ l. l ++ places_from (at + length a) b) first ∙ ap (λ l. places_from at a' ++ l) (second (at + length a))
+    places-more at a b ∙ ap (λ l. l ++ places_from (at + length a) b) first
+    ∙ ap (λ l. places_from at a' ++ l) (second (at + length a))
     ∙ ap (λ n. places_from at a' ++ places_from (at + n) b') long ∙ sym (places-more at a' b')
 
 mutual
-  pub target-places : (n : Node) (k at : ℕ) (target : Option ℕ) → places_from at (contents (with_target k target n)) ≡ places_from at (contents n)
+  pub target-places : (n : Node) (k at : ℕ) (target : Option ℕ)
+      → places_from at (contents (with_target k target n)) ≡ places_from at (contents n)
   target-places (Num width little bits) k at target = refl
   target-places (Line bytes) k at target = refl
   target-places (Ref strong wanted old) k at target = refl
@@ -145,7 +160,8 @@ mutual
   target-places (Row items) k at target =
       places-beside (suc at) (contents_in (with_target_in k target items)) (contents_in items) (content.End ∷ []) (content.End ∷ []) (target_in-length items k target) (target_in-places items k (suc at) target) (λ from. refl)
 
-  target_in-places : (members : Members) (k at : ℕ) (target : Option ℕ) → places_from at (contents_in (with_target_in k target members)) ≡ places_from at (contents_in members)
+  target_in-places : (members : Members) (k at : ℕ) (target : Option ℕ)
+      → places_from at (contents_in (with_target_in k target members)) ≡ places_from at (contents_in members)
   target_in-places End k at target = refl
   target_in-places (Here n rest) k at target =
       elim (nat_lt k (length (refs n))) as (λ t. places_from at (contents_in (if t then Here (with_target k target n) rest else Here n (with_target_in (k - length (refs n)) target rest))) ≡ places_from at (contents n ++ contents_in rest)) [
@@ -154,7 +170,8 @@ mutual
       ]
   target_in-places (Absent rest) k at target = target_in-places rest k (suc at) target
 
-pub target-tree : (n : Node) (k p : ℕ) (target : Option ℕ) (view : RefView) → slice_get (places_from 0 (contents n)) k ≡ Some p → slice_get (contents n) p ≡ Some (content.Reference view)
+pub target-tree : (n : Node) (k p : ℕ) (target : Option ℕ) (view : RefView)
+    → slice_get (places_from 0 (contents n)) k ≡ Some p → slice_get (contents n) p ≡ Some (content.Reference view)
     → slice_set (tree_contents n) p (content.Reference (record { strong = view.strong; wanted = view.wanted; target = target })) ≡ tree_contents (with_target k target n)
 target-tree n k p target view at is =
     set-append_left (contents n) (index_from 0 (places_from 0 (contents n))) p (content.Reference (aimed target view)) (below (contents n) p (content.Reference view) is)
@@ -170,7 +187,8 @@ mutual
   target-small (Group members) k target small = target_in-small members k target small
   target-small (Row items) k target small = target_in-small items k target small
 
-  target_in-small : (members : Members) (k : ℕ) (target : Option ℕ) → HasBytesIn members → HasBytesIn (with_target_in k target members)
+  target_in-small : (members : Members) (k : ℕ) (target : Option ℕ) → HasBytesIn members
+      → HasBytesIn (with_target_in k target members)
   target_in-small End k target small = small
   target_in-small (Here n rest) k target small =
       elim (nat_lt k (length (refs n))) as (λ t. HasBytesIn (if t then Here (with_target k target n) rest else Here n (with_target_in (k - length (refs n)) target rest))) [
@@ -189,7 +207,8 @@ mutual
   target-nodes (Group members) k target = ap (λ c. 1 + c) (target_in-nodes members k target)
   target-nodes (Row items) k target = ap (λ c. 1 + c) (target_in-nodes items k target)
 
-  target_in-nodes : (members : Members) (k : ℕ) (target : Option ℕ) → nodes_in (with_target_in k target members) ≡ nodes_in members
+  target_in-nodes : (members : Members) (k : ℕ) (target : Option ℕ)
+      → nodes_in (with_target_in k target members) ≡ nodes_in members
   target_in-nodes End k target = refl
   target_in-nodes (Here n rest) k target =
       elim (nat_lt k (length (refs n))) as (λ t. nodes_in (if t then Here (with_target k target n) rest else Here n (with_target_in (k - length (refs n)) target rest)) ≡ nodes n + nodes_in rest) [
@@ -208,7 +227,8 @@ mutual
   target-bytes_of (Group members) k target = target_in-bytes_of members k target
   target-bytes_of (Row items) k target = target_in-bytes_of items k target
 
-  target_in-bytes_of : (members : Members) (k : ℕ) (target : Option ℕ) → length (texts Little (with_target_in k target members)) ≡ length (texts Little members)
+  target_in-bytes_of : (members : Members) (k : ℕ) (target : Option ℕ)
+      → length (texts Little (with_target_in k target members)) ≡ length (texts Little members)
   target_in-bytes_of End k target = refl
   target_in-bytes_of (Here n rest) k target =
       elim (nat_lt k (length (refs n))) as (λ t. length (texts Little (if t then Here (with_target k target n) rest else Here n (with_target_in (k - length (refs n)) target rest))) ≡ length (text Little n ++ texts Little rest)) [
@@ -229,19 +249,26 @@ module _ {A : Type 0} (f : Reference → A) (same : (strong : Bool) (wanted old 
     target-kept (Group members) k target = target_in-kept members k target
     target-kept (Row items) k target = target_in-kept items k target
 
-    target_in-kept : (members : Members) (k : ℕ) (target : Option ℕ) → map f (refs_in (with_target_in k target members)) ≡ map f (refs_in members)
+    target_in-kept : (members : Members) (k : ℕ) (target : Option ℕ)
+        → map f (refs_in (with_target_in k target members)) ≡ map f (refs_in members)
     target_in-kept End k target = refl
     target_in-kept (Here n rest) k target =
         elim (nat_lt k (length (refs n))) as (λ t. map f (refs_in (if t then Here (with_target k target n) rest else Here n (with_target_in (k - length (refs n)) target rest))) ≡ map f (refs n ++ refs_in rest)) [
-          | true ↦ map-append f (refs (with_target k target n)) (refs_in rest) ∙ ap (λ l. l ++ map f (refs_in rest)) (target-kept n k target) ∙ sym (map-append f (refs n) (refs_in rest))
-          | false ↦ map-append f (refs n) (refs_in (with_target_in (k - length (refs n)) target rest)) ∙ ap (λ l. map f (refs n) ++ l) (target_in-kept rest (k - length (refs n)) target) ∙ sym (map-append f (refs n) (refs_in rest))
+          | true ↦ map-append f (refs (with_target k target n)) (refs_in rest)
+              ∙ ap (λ l. l ++ map f (refs_in rest)) (target-kept n k target)
+              ∙ sym (map-append f (refs n) (refs_in rest))
+          | false ↦ map-append f (refs n) (refs_in (with_target_in (k - length (refs n)) target rest))
+              ∙ ap (λ l. map f (refs n) ++ l) (target_in-kept rest (k - length (refs n)) target)
+              ∙ sym (map-append f (refs n) (refs_in rest))
         ]
     target_in-kept (Absent rest) k target = target_in-kept rest k target
 
-pub target-strong : (n : Node) (k : ℕ) (target : Option ℕ) → map (λ r. r.strong) (refs (with_target k target n)) ≡ map (λ r. r.strong) (refs n)
+pub target-strong : (n : Node) (k : ℕ) (target : Option ℕ)
+    → map (λ r. r.strong) (refs (with_target k target n)) ≡ map (λ r. r.strong) (refs n)
 target-strong n k target = target-kept (λ r. r.strong) (λ strong wanted old new. refl) n k target
 
-pub target-wanted : (n : Node) (k : ℕ) (target : Option ℕ) → map (λ r. r.wanted) (refs (with_target k target n)) ≡ map (λ r. r.wanted) (refs n)
+pub target-wanted : (n : Node) (k : ℕ) (target : Option ℕ)
+    → map (λ r. r.wanted) (refs (with_target k target n)) ≡ map (λ r. r.wanted) (refs n)
 target-wanted n k target = target-kept (λ r. r.wanted) (λ strong wanted old new. refl) n k target
 
 -- the references, one of them with another target
@@ -259,7 +286,8 @@ mutual
   target-refs (Group members) k target r is = target_in-refs members k target r is
   target-refs (Row items) k target r is = target_in-refs items k target r is
 
-  target_in-refs : (members : Members) (k : ℕ) (target : Option ℕ) (r : Reference) → slice_get (refs_in members) k ≡ Some r
+  target_in-refs : (members : Members) (k : ℕ) (target : Option ℕ) (r : Reference)
+      → slice_get (refs_in members) k ≡ Some r
       → refs_in (with_target_in k target members) ≡ slice_set (refs_in members) k (record { strong = r.strong; wanted = r.wanted; target = target })
   target_in-refs End k target r is = absurd (cc)
   target_in-refs (Here n rest) k target r is = elim (leb_tells (suc k) (length (refs n))) [
@@ -273,7 +301,8 @@ mutual
         let past : length (refs n) ≤ k = let l = e.1 in omega arith in
         let there_ : length (refs n) + (k - length (refs n)) ≡ k = omega arith in
         let tail : slice_get (refs_in rest) (k - length (refs n)) ≡ Some r =
-        sym (get-behind (refs n) (refs_in rest) (k - length (refs n))) ∙ ap (λ m. slice_get (refs n ++ refs_in rest) m) there_ ∙ is in
+        sym (get-behind (refs n) (refs_in rest) (k - length (refs n)))
+        ∙ ap (λ m. slice_get (refs n ++ refs_in rest) m) there_ ∙ is in
         rw e.0 (
         ap (λ l. refs n ++ l) (target_in-refs rest (k - length (refs n)) target r tail)
         ∙ sym (set-append_right (refs n) (refs_in rest) (length (refs n)) k (record { strong = r.strong; wanted = r.wanted; target = target }) refl past)
@@ -282,4 +311,5 @@ mutual
   target_in-refs (Absent rest) k target r is = target_in-refs rest k target r is
 
 pub takes_target : (n : Node) (k : ℕ) (target : Option ℕ) → TakesTarget n k target
-takes_target n k target place reference kth at = target-tree n k place target (view_of reference) at (place-is n k place reference kth at).1
+takes_target n k target place reference kth at =
+    target-tree n k place target (view_of reference) at (place-is n k place reference kth at).1

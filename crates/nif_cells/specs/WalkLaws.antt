@@ -26,21 +26,31 @@ met-index number [] = refl
 met-index number (place ∷ rest) = met-index (suc number) rest
 
 -- members and the end behind them
-closing : (members : Members) (rest : List Content) → met_in (contents_in members ++ content.End ∷ rest) ≡ walk_in members ++ Ends ∷ met_in rest
+closing : (members : Members) (rest : List Content)
+    → met_in (contents_in members ++ content.End ∷ rest) ≡ walk_in members ++ Ends ∷ met_in rest
     → met_in ((contents_in members ++ content.End ∷ []) ++ rest) ≡ (walk_in members ++ Ends ∷ []) ++ met_in rest
-closing members rest known = ap met_in (append_assoc (contents_in members) (content.End ∷ []) rest) ∙ known ∙ sym (append_assoc (walk_in members) (Ends ∷ []) (met_in rest))
+closing members rest known =
+    ap met_in (append_assoc (contents_in members) (content.End ∷ []) rest) ∙ known
+    ∙ sym (append_assoc (walk_in members) (Ends ∷ []) (met_in rest))
 
 mutual
   pub met-node : (n : Node) (rest : List Content) → HasBytes n → met_in (contents n ++ rest) ≡ walk n ++ met_in rest
   met-node (Num width little bits) rest small = refl
-  met-node (Line bytes) rest small = ap (λ b. Leaf (Line b) ∷ met_in (byte_cells bytes ++ rest)) (bytes_at-cells bytes rest small) ∙ ap (λ m. Leaf (Line bytes) ∷ m) (met-bytes bytes rest)
+  met-node (Line bytes) rest small =
+      ap (λ b. Leaf (Line b) ∷ met_in (byte_cells bytes ++ rest)) (bytes_at-cells bytes rest small)
+      ∙ ap (λ m. Leaf (Line bytes) ∷ m) (met-bytes bytes rest)
   met-node (Ref strong wanted target) rest small = refl
   met-node (Text index) rest small = refl
-  met-node (Bytes bytes) rest small = ap (λ b. Leaf (Bytes b) ∷ met_in (byte_cells bytes ++ rest)) (bytes_at-cells bytes rest small) ∙ ap (λ m. Leaf (Bytes bytes) ∷ m) (met-bytes bytes rest)
-  met-node (Group members) rest small = ap (λ m. Opens false (count members) ∷ m) (closing members rest (met-members members (content.End ∷ rest) small))
-  met-node (Row items) rest small = ap (λ m. Opens true (count items) ∷ m) (closing items rest (met-members items (content.End ∷ rest) small))
+  met-node (Bytes bytes) rest small =
+      ap (λ b. Leaf (Bytes b) ∷ met_in (byte_cells bytes ++ rest)) (bytes_at-cells bytes rest small)
+      ∙ ap (λ m. Leaf (Bytes bytes) ∷ m) (met-bytes bytes rest)
+  met-node (Group members) rest small =
+      ap (λ m. Opens false (count members) ∷ m) (closing members rest (met-members members (content.End ∷ rest) small))
+  met-node (Row items) rest small =
+      ap (λ m. Opens true (count items) ∷ m) (closing items rest (met-members items (content.End ∷ rest) small))
 
-  pub met-members : (members : Members) (rest : List Content) → HasBytesIn members → met_in (contents_in members ++ rest) ≡ walk_in members ++ met_in rest
+  pub met-members : (members : Members) (rest : List Content) → HasBytesIn members
+      → met_in (contents_in members ++ rest) ≡ walk_in members ++ met_in rest
   met-members End rest small = refl
   met-members (Here n more) rest small =
       ap met_in (append_assoc (contents n) (contents_in more) rest) ∙ met-node n (contents_in more ++ rest) small.0
@@ -49,16 +59,20 @@ mutual
 
 pub met-tree : (n : Node) → HasBytes n → met_in (tree_contents n) ≡ walk n
 met-tree n small =
-    met-node n (index_from 0 (places_from 0 (contents n))) small ∙ ap (λ m. walk n ++ m) (met-index 0 (places_from 0 (contents n)))
+    met-node n (index_from 0 (places_from 0 (contents n))) small
+    ∙ ap (λ m. walk n ++ m) (met-index 0 (places_from 0 (contents n)))
     ∙ append-nil (walk n)
 
 -- what stands behind the cells of bytes
-pub behind-bytes : (bytes : List ℕ) (rest : List Content) → drop (length bytes / 8 + 1) (byte_cells bytes ++ rest) ≡ rest
+pub behind-bytes : (bytes : List ℕ) (rest : List Content)
+    → drop (length bytes / 8 + 1) (byte_cells bytes ++ rest) ≡ rest
 behind-bytes bytes rest = drop_at (byte_cells bytes) rest (length bytes / 8 + 1) (byte_cells-length bytes)
 
 followed : (c : Content) (rest more : List Content) → IsFollowed c rest → IsFollowed c (rest ++ more)
-followed (content.Line len) rest more h = (h.0, h.1 ++ more, h.2, h.3, ap (λ l. l ++ more) h.4 ∙ append_assoc (byte_cells h.0) h.1 more)
-followed (content.Bytes len) rest more h = (h.0, h.1 ++ more, h.2, h.3, ap (λ l. l ++ more) h.4 ∙ append_assoc (byte_cells h.0) h.1 more)
+followed (content.Line len) rest more h =
+    (h.0, h.1 ++ more, h.2, h.3, ap (λ l. l ++ more) h.4 ∙ append_assoc (byte_cells h.0) h.1 more)
+followed (content.Bytes len) rest more h =
+    (h.0, h.1 ++ more, h.2, h.3, ap (λ l. l ++ more) h.4 ∙ append_assoc (byte_cells h.0) h.1 more)
 followed _ rest more h = tt
 
 pub headed-append : (a b : List Content) → IsHeaded a → IsHeaded b → IsHeaded (a ++ b)
@@ -79,12 +93,15 @@ mutual
   headed-node (Ref strong wanted target) small = (tt, tt)
   headed-node (Text index) small = (tt, tt)
   headed-node (Bytes bytes) small = ((bytes, [], refl, small, sym (append-nil (byte_cells bytes))), headed-bytes bytes)
-  headed-node (Group members) small = (tt, headed-append (contents_in members) (content.End ∷ []) (headed-members members small) (tt, tt))
-  headed-node (Row items) small = (tt, headed-append (contents_in items) (content.End ∷ []) (headed-members items small) (tt, tt))
+  headed-node (Group members) small =
+      (tt, headed-append (contents_in members) (content.End ∷ []) (headed-members members small) (tt, tt))
+  headed-node (Row items) small =
+      (tt, headed-append (contents_in items) (content.End ∷ []) (headed-members items small) (tt, tt))
 
   headed-members : (members : Members) → HasBytesIn members → IsHeaded (contents_in members)
   headed-members End small = tt
-  headed-members (Here n rest) small = headed-append (contents n) (contents_in rest) (headed-node n small.0) (headed-members rest small.1)
+  headed-members (Here n rest) small =
+      headed-append (contents n) (contents_in rest) (headed-node n small.0) (headed-members rest small.1)
   headed-members (Absent rest) small = (tt, headed-members rest small)
 
 headed-index : (number : ℕ) (places : List ℕ) → IsHeaded (index_from number places)

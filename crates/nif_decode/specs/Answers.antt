@@ -65,7 +65,8 @@ pub record FailsThere (Fails : Point → Fault → Type 0) (fault : Fault) (rest
   pub gone : IsGone (at.place + length at.left) fault rest
 
 -- Why a call did not succeed.
-abbrev pub Stops : {S : Type 0} → (S → Option (List ℕ)) → (S → ℕ) → (Point → Fault → Type 0) → Stand S → Taker S → Cause → Type 0
+abbrev pub Stops : {S : Type 0} → (S → Option (List ℕ)) → (S → ℕ) → (Point → Fault → Type 0) → Stand S → Taker S
+    → Cause → Type 0
 Stops left faults Fails old new (OfValue fault) = IfTold left (FailsThere Fails fault (left (source_of new))) old
 Stops left faults Fails old new OfRead = Rose (faults (source_of old.taker)) (faults (source_of new))
 Stops left faults Fails old new OfMemory = Unit {0}
@@ -102,7 +103,8 @@ pub record ReadsNode {S : Type 0} (left : S → Option (List ℕ)) (still : S �
 
 -- A node was added to what stands, or want of memory left some of it.
 abbrev pub Adds : Node → List Entry → Trees → List Entry → Trees → List Entry → Result (Unit {0}) NoMemory → Type 0
-Adds node kept old told new told_new (Ok _) = (new.building ≡ after old.building (placed node)) × (told_new ≡ told ++ kept)
+Adds node kept old told new told_new (Ok _) =
+    (new.building ≡ after old.building (placed node)) × (told_new ≡ told ++ kept)
 Adds node kept old told new told_new (Err _) = IsSome new.building
 
 -- A call did not succeed, for a cause.
@@ -112,6 +114,8 @@ pub record Ceases {S : Type 0} (left : S → Option (List ℕ)) (still : S → S
   pub stops : Stops left faults Fails old new.taker why
 
 -- A value is read, or it fails.
-abbrev pub Answers : {S : Type 0} → (S → Option (List ℕ)) → (S → S → Type 0) → (S → ℕ) → Order → (Node → Type 0) → (Point → Fault → Type 0) → (Node → List Entry) → Stand S → Stand S → Result (Unit {0}) ValueFault → Type 0
+abbrev pub Answers : {S : Type 0} → (S → Option (List ℕ)) → (S → S → Type 0) → (S → ℕ) → Order → (Node → Type 0)
+    → (Point → Fault → Type 0) → (Node → List Entry) → Stand S → Stand S → Result (Unit {0}) ValueFault → Type 0
 Answers left still faults order IsIt Fails keeps old new (Ok _) = ReadsNode left still faults order IsIt keeps old new
-Answers left still faults order IsIt Fails keeps old new (Err fault) = Ceases left still faults Fails old new (cause fault)
+Answers left still faults order IsIt Fails keeps old new (Err fault) =
+    Ceases left still faults Fails old new (cause fault)

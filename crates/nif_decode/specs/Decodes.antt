@@ -46,7 +46,8 @@ context_for schema context kind bounds = record {
 
 -- a block type, or a struct that isn't generic
 abbrev pub IsGroupType : Schema → ℕ → Type 0
-IsGroupType schema kind = (has_block schema kind ≡ true) ⊎ ((what_at schema kind ≡ Some Struct) × (is_generic schema kind ≡ false))
+IsGroupType schema kind =
+    (has_block schema kind ≡ true) ⊎ ((what_at schema kind ≡ Some Struct) × (is_generic schema kind ≡ false))
 
 -- The value was read into a tree of its own, and its nodes were counted.
 pub record Decoded {S : Type 0} (left : S → Option (List ℕ)) (still : S → S → Type 0) (faults : S → ℕ) (schema : Schema) (C : Context) (kind : ℕ) (old new : Taker S) (counted now : ℕ) (before after : Trees) (tree : TreeId) : Type 0 where
@@ -65,9 +66,12 @@ pub record Refused {S : Type 0} (left : S → Option (List ℕ)) (still : S → 
   pub stops : Stops left faults (Fails schema C 64 (kind_of schema C kind None 0)) (record { taker = old; nodes = counted; building = None; told = [] }) new (cause fault)
   pub trees : after.trees ≡ before.trees
 
-abbrev pub Decodes : {S : Type 0} → (S → Option (List ℕ)) → (S → S → Type 0) → (S → ℕ) → Schema → Context → ℕ → Taker S → Taker S → ℕ → ℕ → Trees → Trees → Result TreeId ValueFault → Type 0
-Decodes left still faults schema C kind old new counted now before after (Ok tree) = Decoded left still faults schema C kind old new counted now before after tree
-Decodes left still faults schema C kind old new counted now before after (Err fault) = Refused left still faults schema C kind old new counted before after fault
+abbrev pub Decodes : {S : Type 0} → (S → Option (List ℕ)) → (S → S → Type 0) → (S → ℕ) → Schema → Context → ℕ
+    → Taker S → Taker S → ℕ → ℕ → Trees → Trees → Result TreeId ValueFault → Type 0
+Decodes left still faults schema C kind old new counted now before after (Ok tree) =
+    Decoded left still faults schema C kind old new counted now before after tree
+Decodes left still faults schema C kind old new counted now before after (Err fault) =
+    Refused left still faults schema C kind old new counted before after fault
 
 -- ---- some members of a line, behind those that were read
 
@@ -101,6 +105,9 @@ pub record MembersRefused {S : Type 0} (left : S → Option (List ℕ)) (still :
   pub stops : Stops left faults (MembersFail schema C (fields_between schema kind from to) (env_of schema kind held)) (record { taker = old; nodes = counted; building = None; told = [] }) new (cause fault)
   pub building : after.building ≡ None
 
-abbrev pub DecodesMembers : {S : Type 0} → (S → Option (List ℕ)) → (S → S → Type 0) → (S → ℕ) → Schema → Context → ℕ → ℕ → ℕ → Members → Taker S → Taker S → ℕ → ℕ → List Entry → Trees → Result (Unit {0}) ValueFault → Type 0
-DecodesMembers left still faults schema C kind from to held old new counted now entries after (Ok _) = MembersDecoded left still faults schema C kind from to held old new counted now entries after
-DecodesMembers left still faults schema C kind from to held old new counted now entries after (Err fault) = MembersRefused left still faults schema C kind from to held old new counted after fault
+abbrev pub DecodesMembers : {S : Type 0} → (S → Option (List ℕ)) → (S → S → Type 0) → (S → ℕ) → Schema → Context → ℕ
+    → ℕ → ℕ → Members → Taker S → Taker S → ℕ → ℕ → List Entry → Trees → Result (Unit {0}) ValueFault → Type 0
+DecodesMembers left still faults schema C kind from to held old new counted now entries after (Ok _) =
+    MembersDecoded left still faults schema C kind from to held old new counted now entries after
+DecodesMembers left still faults schema C kind from to held old new counted now entries after (Err fault) =
+    MembersRefused left still faults schema C kind from to held old new counted after fault

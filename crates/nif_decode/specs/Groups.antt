@@ -33,7 +33,8 @@ GroupStops at d p fault =
 
 -- the value of a field behind these earlier fields
 abbrev pub ValueShape : Setting → ℕ → Env → Field → Node → Type 0
-ValueShape at d E f node = FormShape at.schema.now (context_in at) d (form_of at.schema.now (context_in at) at.template at.arg E f) node
+ValueShape at d E f node =
+    FormShape at.schema.now (context_in at) d (form_of at.schema.now (context_in at) at.template at.arg E f) node
 
 abbrev pub ValueStops : Setting → ℕ → Env → Field → Point → Fault → Type 0
 ValueStops at d E f p fault = FormShapeFails at.schema.now (context_in at) d (form_of at.schema.now (context_in at) at.template at.arg E f) p fault
@@ -75,6 +76,8 @@ pub record ReadsMember {S : Type 0} (left : S → Option (List ℕ)) (still : S 
   pub built : new.building ≡ built_by got old.building
   pub told : new.told ≡ old.told ++ member_kept (asks at.schema.now at.number f) got
 
-abbrev pub MemberAnswers : {S : Type 0} → (S → Option (List ℕ)) → (S → S → Type 0) → (S → ℕ) → Setting → ℕ → Env → Field → Stand S → Stand S → Result (Unit {0}) ValueFault → Type 0
+abbrev pub MemberAnswers : {S : Type 0} → (S → Option (List ℕ)) → (S → S → Type 0) → (S → ℕ) → Setting → ℕ → Env
+    → Field → Stand S → Stand S → Result (Unit {0}) ValueFault → Type 0
 MemberAnswers left still faults at d E f old new (Ok _) = ReadsMember left still faults at d E f old new
-MemberAnswers left still faults at d E f old new (Err fault) = Ceases left still faults (MemberStops at d E f) old new (cause fault)
+MemberAnswers left still faults at d E f old new (Err fault) =
+    Ceases left still faults (MemberStops at d E f) old new (cause fault)

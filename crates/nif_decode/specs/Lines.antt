@@ -29,21 +29,29 @@ pub record LineRead {S : Type 0} (left : S → Option (List ℕ)) (still : S →
   pub kept : entries ≡ entry.Nothing ∷ []
   pub is : building ≡ Some (record { top = None; levels = InGroup (Here (Line (take length into)) End) ∷ [] })
 
--- The line failed, in whatever context it stands, or it was not read for another cause; the tree that was begun is gone.
+-- The line failed, in whatever context it stands, or it was not read for another cause; the tree that was begun is
+-- gone.
 pub record LineRefused {S : Type 0} (left : S → Option (List ℕ)) (still : S → S → Type 0) (faults : S → ℕ) (old new : Taker S) (counted : ℕ) (building : Option Building) (fault : ValueFault) : Type 0 where
   pub went : Went still faults old new
-  pub stops : (C : Context) → Stops left faults (LeafFails C kind.Line) (record { taker = old; nodes = counted; building = None; told = [] }) new (cause fault)
+  pub stops : (C : Context)
+      → Stops left faults (LeafFails C kind.Line)
+          (record { taker = old; nodes = counted; building = None; told = [] }) new (cause fault)
   pub gone : building ≡ None
 
-abbrev pub DecodesLine : {S : Type 0} → (S → Option (List ℕ)) → (S → S → Type 0) → (S → ℕ) → Taker S → Taker S → ℕ → ℕ → List ℕ → List Entry → Trees → Result ℕ ValueFault → Type 0
-DecodesLine left still faults old new counted now into entries after (Ok length) = LineRead left still faults old new counted now into entries after.building length
-DecodesLine left still faults old new counted now into entries after (Err fault) = LineRefused left still faults old new counted after.building fault
+abbrev pub DecodesLine : {S : Type 0} → (S → Option (List ℕ)) → (S → S → Type 0) → (S → ℕ) → Taker S → Taker S → ℕ → ℕ
+    → List ℕ → List Entry → Trees → Result ℕ ValueFault → Type 0
+DecodesLine left still faults old new counted now into entries after (Ok length) =
+    LineRead left still faults old new counted now into entries after.building length
+DecodesLine left still faults old new counted now into entries after (Err fault) =
+    LineRefused left still faults old new counted after.building fault
 
 -- a line is counted, and then its bytes are missing or it is too long
 abbrev pub LineStops : Point → Fault → Type 0
 LineStops at fault = Counted (λ f. f) (λ next f. line_ends next ≡ Some f) at fault
 
 -- The same while the tree that was begun still stands.
-abbrev pub AddsLine : {S : Type 0} → (S → Option (List ℕ)) → (S → S → Type 0) → (S → ℕ) → List ℕ → Stand S → Stand S → Result ℕ ValueFault → Type 0
-AddsLine left still faults into old new (Ok length) = LineRead left still faults old.taker new.taker old.nodes new.nodes into new.told new.building length
+abbrev pub AddsLine : {S : Type 0} → (S → Option (List ℕ)) → (S → S → Type 0) → (S → ℕ) → List ℕ → Stand S → Stand S
+    → Result ℕ ValueFault → Type 0
+AddsLine left still faults into old new (Ok length) =
+    LineRead left still faults old.taker new.taker old.nodes new.nodes into new.told new.building length
 AddsLine left still faults into old new (Err fault) = Ceases left still faults LineStops old new (cause fault)

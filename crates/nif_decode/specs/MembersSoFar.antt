@@ -19,7 +19,8 @@ use Rattle.nif_decode.specs.Decodes.{fields_between, env_of}
 
 -- These members are held where a reader stands.
 abbrev pub HoldsAt : {S : Type 0} → Setting → ℕ → Stand S → Members → Type 0
-HoldsAt at from old held = HoldsMembers at.schema.now at.number from old.told old.building old.nodes (place_of old.taker) held
+HoldsAt at from old held =
+    HoldsMembers at.schema.now at.number from old.told old.building old.nodes (place_of old.taker) held
 
 -- The members of the fields from one place to another were read, and are kept behind those that were held.
 pub record MembersSoFar {S : Type 0} (left : S → Option (List ℕ)) (still : S → S → Type 0) (faults : S → ℕ) (at : Setting) (from to : ℕ) (held : Members) (old now : Stand S) : Type 0 where
@@ -34,6 +35,8 @@ abbrev pub MembersStop : Setting → ℕ → ℕ → Members → Point → Fault
 MembersStop at from to held p fault =
     FieldsFail (λ w. w) (λ E. (context_in at).order) (IsHere at) (ValueShape at 63) (ValueStops at 63) no_check (fields_between at.schema.now at.number from to) (env_of at.schema.now at.number held) p fault
 
-abbrev pub MembersAnswers : {S : Type 0} → (S → Option (List ℕ)) → (S → S → Type 0) → (S → ℕ) → Setting → ℕ → ℕ → Members → Stand S → Stand S → Result (Unit {0}) ValueFault → Type 0
+abbrev pub MembersAnswers : {S : Type 0} → (S → Option (List ℕ)) → (S → S → Type 0) → (S → ℕ) → Setting → ℕ → ℕ
+    → Members → Stand S → Stand S → Result (Unit {0}) ValueFault → Type 0
 MembersAnswers left still faults at from to held old new (Ok _) = MembersSoFar left still faults at from to held old new
-MembersAnswers left still faults at from to held old new (Err fault) = Ceases left still faults (MembersStop at from to held) old new (cause fault)
+MembersAnswers left still faults at from to held old new (Err fault) =
+    Ceases left still faults (MembersStop at from to held) old new (cause fault)

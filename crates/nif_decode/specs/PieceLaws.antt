@@ -29,20 +29,23 @@ tests_plain place true b = refl
 tests_plain place false true = refl
 tests_plain place false false = refl
 
-pub shortage_plain : (need : ℕ) (p : Point) → shortage need p ≡ option_and_then (plain_of p.place) (need_fault p.place need p.left)
+pub shortage_plain : (need : ℕ) (p : Point)
+    → shortage need p ≡ option_and_then (plain_of p.place) (need_fault p.place need p.left)
 unfolding need_fault
 shortage_plain need p = tests_plain p.place (nat_lt (2 ^ 26) (p.place + need) && nat_lt (2 ^ 26) (p.place + length p.left)) (nat_lt (length p.left) need)
 
 pub need_no_line : (place need : ℕ) (bytes : List ℕ) → need_fault place need bytes ≢ Some take.LineTooLong
 unfolding need_fault
-need_no_line place need bytes = by (nat_lt (2 ^ 26) (place + need) && nat_lt (2 ^ 26) (place + length bytes)) (nat_lt (length bytes) need)
+need_no_line place need bytes =
+    by (nat_lt (2 ^ 26) (place + need) && nat_lt (2 ^ 26) (place + length bytes)) (nat_lt (length bytes) need)
   where
     by : (a b : Bool) → (if a then Some take.TooLong else if b then Some take.Ended else None) ≢ Some take.LineTooLong
     by true b e = absurd (cc)
     by false true e = absurd (cc)
     by false false e = absurd (cc)
 
-pub need_ended : (place need : ℕ) (bytes : List ℕ) → need_fault place need bytes ≡ Some take.Ended → 2 ^ 26 < place + need → 2 ^ 26 < place + length bytes → ⊥
+pub need_ended : (place need : ℕ) (bytes : List ℕ) → need_fault place need bytes ≡ Some take.Ended
+    → 2 ^ 26 < place + need → 2 ^ 26 < place + length bytes → ⊥
 unfolding need_fault
 need_ended place need bytes e a b =
     let ta : ltb (2 ^ 26) (place + need) ≡ true = lt-ltb (2 ^ 26) (place + need) a in
@@ -54,16 +57,19 @@ need_ended place need bytes e a b =
     by true false p q h = absurd (cc)
     by false y p q h = absurd (cc)
 
-pub need_is_long : (place need : ℕ) (bytes : List ℕ) → 2 ^ 26 < place + need → 2 ^ 26 < place + length bytes → need_fault place need bytes ≡ Some take.TooLong
+pub need_is_long : (place need : ℕ) (bytes : List ℕ) → 2 ^ 26 < place + need → 2 ^ 26 < place + length bytes
+    → need_fault place need bytes ≡ Some take.TooLong
 unfolding need_fault
 need_is_long place need bytes a b =
     let ta : ltb (2 ^ 26) (place + need) ≡ true = lt-ltb (2 ^ 26) (place + need) a in
     let tb : ltb (2 ^ 26) (place + length bytes) ≡ true = lt-ltb (2 ^ 26) (place + length bytes) b in
     rw (ta, tb) refl
 
-pub need_is_short : (place need : ℕ) (bytes : List ℕ) → length bytes < need → (2 ^ 26 < place + need → 2 ^ 26 < place + length bytes → ⊥) → need_fault place need bytes ≡ Some take.Ended
+pub need_is_short : (place need : ℕ) (bytes : List ℕ) → length bytes < need
+    → (2 ^ 26 < place + need → 2 ^ 26 < place + length bytes → ⊥) → need_fault place need bytes ≡ Some take.Ended
 unfolding need_fault
-need_is_short place need bytes less both = by (ltb (2 ^ 26) (place + need)) (ltb (2 ^ 26) (place + length bytes)) refl refl
+need_is_short place need bytes less both =
+    by (ltb (2 ^ 26) (place + need)) (ltb (2 ^ 26) (place + length bytes)) refl refl
   where
     short : ltb (length bytes) need ≡ true
     short = lt-ltb (length bytes) need less
@@ -75,7 +81,8 @@ need_is_short place need bytes less both = by (ltb (2 ^ 26) (place + need)) (ltb
     by false y p q = ap (λ b. if b then Some take.Ended else None) short
 
 -- what a piece of a run lacks, the run lacks
-pub need_whole : (place n count : ℕ) (x rest : List ℕ) (fault : TakeFault) → length x + n ≤ count → need_fault (place + length x) n rest ≡ Some fault → fault ≢ take.LineTooLong → fault ≢ take.ReadFault
+pub need_whole : (place n count : ℕ) (x rest : List ℕ) (fault : TakeFault) → length x + n ≤ count
+    → need_fault (place + length x) n rest ≡ Some fault → fault ≢ take.LineTooLong → fault ≢ take.ReadFault
     → need_fault place count (x ++ rest) ≡ Some fault
 need_whole place n count x rest take.Ended fits e l r =
     let len : length (x ++ rest) ≡ length x + length rest = length-append x rest in
@@ -96,14 +103,16 @@ pub gone_all : (total at : ℕ) (rest : Option (List ℕ)) → IsGone total (pla
 gone_all total at None = tt
 gone_all total at (Some bytes) = omega arith
 
-pub gone_long : (place asked : ℕ) (bytes : List ℕ) (total : ℕ) (rest : Option (List ℕ)) → total ≡ place + length bytes → place + asked ≤ 2 ^ 26 + 1 → IfSome rest (λ r. length bytes ≤ asked + 4096 + length r)
+pub gone_long : (place asked : ℕ) (bytes : List ℕ) (total : ℕ) (rest : Option (List ℕ)) → total ≡ place + length bytes
+    → place + asked ≤ 2 ^ 26 + 1 → IfSome rest (λ r. length bytes ≤ asked + 4096 + length r)
     → IsGone total plain.TooLong rest
 gone_long place asked bytes total None is h t = tt
 gone_long place asked bytes total (Some r) is h t = omega (arith, t)
 
 -- A piece of a run was not given.
 pub piece_ends : {S : Type 0} (left : S → Option (List ℕ)) (still : S → S → Type 0) (faults : S → ℕ) (a b c : Taker S) (x : List ℕ) (n count : ℕ) (fault : TakeFault)
-    → Takes left still faults a x b → length x + n ≤ count → Misses left still faults b (need_fault (place_of b) n) (asked_at (place_of b) n) c fault
+    → Takes left still faults a x b → length x + n ≤ count
+    → Misses left still faults b (need_fault (place_of b) n) (asked_at (place_of b) n) c fault
     → Ends left still faults (shortage count) a c (take_cause (place_of a) fault)
 piece_ends {S = S} left still faults a b c x n count fault t fits m = record {
   went = record { same_reference = m.same_reference ∙ t.same_reference; keeps = keeps_joined still a b c t.keeps m.keeps; later = omega (arith, t.later, m.later) };
@@ -113,7 +122,8 @@ piece_ends {S = S} left still faults a b c x n count fault t fits m = record {
     room : place_of b + asked_at (place_of b) n ≤ 2 ^ 26 + 1
     room = omega (arith, t.within)
 
-    whole : (k : ℕ) (rest : List ℕ) (f : TakeFault) (w : Fault) → plain_of (place_of a) f ≡ Some w → f ≢ take.LineTooLong → f ≢ take.ReadFault → need_fault (place_of b) n rest ≡ Some f
+    whole : (k : ℕ) (rest : List ℕ) (f : TakeFault) (w : Fault) → plain_of (place_of a) f ≡ Some w
+        → f ≢ take.LineTooLong → f ≢ take.ReadFault → need_fault (place_of b) n rest ≡ Some f
         → shortage count (record { nodes = k; place = place_of a; left = x ++ rest }) ≡ Some w
     whole k rest f w is l r e =
         shortage_plain count (record { nodes = k; place = place_of a; left = x ++ rest })
@@ -121,7 +131,8 @@ piece_ends {S = S} left still faults a b c x n count fault t fits m = record {
         (need_whole (place_of a) n count x rest f fits (ap (λ p. need_fault p n rest) (sym t.place) ∙ e) l r)
         ∙ is
 
-    told : (k : ℕ) (f : TakeFault) (w : Fault) (q : Option (List ℕ)) → plain_of (place_of a) f ≡ Some w → f ≢ take.LineTooLong → f ≢ take.ReadFault
+    told : (k : ℕ) (f : TakeFault) (w : Fault) (q : Option (List ℕ)) → plain_of (place_of a) f ≡ Some w
+        → f ≢ take.LineTooLong → f ≢ take.ReadFault
         → ((bytes : List ℕ) → IfSome (left (source_of c)) (λ r. length bytes ≤ asked_at (place_of b) n + 4096 + length r) → IsGone (place_of a + length (x ++ bytes)) w (left (source_of c)))
         → IfSome q (λ bytes. need_fault (place_of b) n bytes ≡ Some f)
         → IfSome q (λ bytes. IfSome (left (source_of c)) (λ r. length bytes ≤ asked_at (place_of b) n + 4096 + length r))
@@ -134,7 +145,8 @@ piece_ends {S = S} left still faults a b c x n count fault t fits m = record {
         → IfSome (left_of left a) (λ bytes. FailsThere (λ p v. shortage count p ≡ Some v) w (left (source_of c)) (record { nodes = k; place = place_of a; left = bytes }))
     at_old k w h = subst (λ o. IfSome o (λ bytes. FailsThere (λ p v. shortage count p ≡ Some v) w (left (source_of c)) (record { nodes = k; place = place_of a; left = bytes }))) (sym t.given) h
 
-    no_line : (q : Option (List ℕ)) (w : Fault) (k : ℕ) → IfSome q (λ bytes. need_fault (place_of b) n bytes ≡ Some take.LineTooLong)
+    no_line : (q : Option (List ℕ)) (w : Fault) (k : ℕ)
+        → IfSome q (λ bytes. need_fault (place_of b) n bytes ≡ Some take.LineTooLong)
         → IfSome (prepended x q) (λ bytes. FailsThere (λ p v. shortage count p ≡ Some v) w (left (source_of c)) (record { nodes = k; place = place_of a; left = bytes }))
     no_line None w k e = tt
     no_line (Some rest) w k e = absurd (need_no_line (place_of b) n rest e)

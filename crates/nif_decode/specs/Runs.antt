@@ -39,6 +39,8 @@ pub record RunSoFar {S : Type 0} (left : S → Option (List ℕ)) (still : S →
   pub told : new.told ≡ old.told ++ bytes_kept asked bytes
 
 -- The run is read, or it fails.
-abbrev pub RunAnswers : {S : Type 0} → (S → Option (List ℕ)) → (S → S → Type 0) → (S → ℕ) → Bool → ℕ → Stand S → Stand S → Result (Unit {0}) ValueFault → Type 0
+abbrev pub RunAnswers : {S : Type 0} → (S → Option (List ℕ)) → (S → S → Type 0) → (S → ℕ) → Bool → ℕ → Stand S
+    → Stand S → Result (Unit {0}) ValueFault → Type 0
 RunAnswers left still faults asked count old new (Ok _) = RunSoFar left still faults asked count old new
-RunAnswers left still faults asked count old new (Err fault) = IsSome new.building × Ends left still faults (shortage count) old.taker new.taker (cause fault)
+RunAnswers left still faults asked count old new (Err fault) =
+    IsSome new.building × Ends left still faults (shortage count) old.taker new.taker (cause fault)

@@ -34,8 +34,8 @@ abbrev pub inner_number : ℕ → Node → Option ℕ
 inner_number k (node.Group members) = option_and_then number_in (member_at members k)
 inner_number k _ = None
 
--- The bits of the member at a place; or of a member of it, where it is a group. There are none where it is absent, or no
--- number.
+-- The bits of the member at a place; or of a member of it, where it is a group. There are none where it is absent, or
+-- no number.
 abbrev pub number_at : Members → ℕ → Option ℕ → Option ℕ
 number_at members k None = option_and_then number_in (member_at members k)
 number_at members k (Some inner) = option_and_then (inner_number inner) (member_at members k)

@@ -7,7 +7,8 @@ use Rattle.nif_decode.specs.Answers.{Went}
 
 module _ {S : Type 0} (left : S → Option (List ℕ)) (still : S → S → Type 0) (faults : S → ℕ) where
   -- calls went, and then more
-  pub went_on : (start old new : Taker S) → Went still faults start old → Went still faults old new → Went still faults start new
+  pub went_on : (start old new : Taker S) → Went still faults start old → Went still faults old new
+      → Went still faults start new
   went_on start old new t w = record {
     same_reference = w.same_reference ∙ t.same_reference;
     keeps = keeps_joined still start old new t.keeps w.keeps;
@@ -19,5 +20,6 @@ module _ {S : Type 0} (left : S → Option (List ℕ)) (still : S → S → Type
   went_same taker = record { same_reference = refl; keeps = keeps_same still taker taker refl; later = omega arith }
 
   -- calls took bytes
-  pub went_whole : (start new : Taker S) (bytes : List ℕ) → Takes left still faults start bytes new → Went still faults start new
+  pub went_whole : (start new : Taker S) (bytes : List ℕ) → Takes left still faults start bytes new
+      → Went still faults start new
   went_whole start new bytes t = record { same_reference = t.same_reference; keeps = t.keeps; later = t.later }

@@ -28,7 +28,8 @@ depth_more depth (step.Row items) = omega arith
 depth_more depth step.Absent = omega arith
 depth_more depth step.End = omega arith
 
-pub fits_more : (depth next all rest : ℕ) → (0 < depth → depth + all < 2 ^ 32) → next ≤ depth + 1 → all ≡ suc rest → all < 2 ^ 32 → next + rest < 2 ^ 32
+pub fits_more : (depth next all rest : ℕ) → (0 < depth → depth + all < 2 ^ 32) → next ≤ depth + 1 → all ≡ suc rest
+    → all < 2 ^ 32 → next + rest < 2 ^ 32
 fits_more zero next all rest fits more is few = omega arith
 fits_more (suc depth) next all rest fits more is few = let h = fits (omega arith) in omega (arith, h)
 
@@ -46,8 +47,12 @@ pub record Passes (all : List Met) (depth : ℕ) (ahead : List Met) : Type 0 whe
   pub whole : behind_one depth ahead ≡ behind_one 0 all
   pub fits : 0 < depth → depth + length ahead < 2 ^ 32
 
-pub passes_next : (all : List Met) (depth : ℕ) (met : Met) (rest ahead : List Met) → Passes all depth ahead → ahead ≡ met ∷ rest → length ahead < 2 ^ 32 → depth_after depth (step_of met) ≢ 0 → Passes all (depth_after depth (step_of met)) rest
+pub passes_next : (all : List Met) (depth : ℕ) (met : Met) (rest ahead : List Met) → Passes all depth ahead
+    → ahead ≡ met ∷ rest → length ahead < 2 ^ 32 → depth_after depth (step_of met) ≢ 0
+    → Passes all (depth_after depth (step_of met)) rest
 passes_next all depth met rest ahead so_far is few more = record {
-  whole = sym (opened (depth_after depth (step_of met)) (behind_one (depth_after depth (step_of met)) rest) rest more) ∙ ap (behind_one depth) (sym is) ∙ so_far.whole;
+  whole =
+      sym (opened (depth_after depth (step_of met)) (behind_one (depth_after depth (step_of met)) rest) rest more)
+      ∙ ap (behind_one depth) (sym is) ∙ so_far.whole;
   fits = λ _. fits_more depth (depth_after depth (step_of met)) (length ahead) (length rest) so_far.fits (depth_more depth (step_of met)) (ap length is) few;
 }

@@ -18,22 +18,30 @@ pub lowered : (depth : ℕ) → suc depth - 1 ≡ depth
 lowered depth = omega arith
 
 mutual
-  node_text : (order : Order) (depth : ℕ) (n : Node) (rest : List Met) → one_text order depth (walk n ++ rest) ≡ text order n ++ after order depth rest
+  node_text : (order : Order) (depth : ℕ) (n : Node) (rest : List Met)
+      → one_text order depth (walk n ++ rest) ≡ text order n ++ after order depth rest
   node_text order depth (Num width little bits) rest = refl
   node_text order depth (Line bytes) rest = refl
   node_text order depth (Ref strong wanted target) rest = refl
   node_text order depth (Text index) rest = refl
   node_text order depth (Bytes bytes) rest = refl
   node_text order depth (Group members) rest =
-      ap (λ m. one_text order (suc depth) m) (append_assoc (walk_in members) (Ends ∷ []) rest) ∙ members_text order depth members (Ends ∷ rest) ∙ ap (λ d. texts order members ++ after order d rest) (lowered depth)
+      ap (λ m. one_text order (suc depth) m) (append_assoc (walk_in members) (Ends ∷ []) rest)
+      ∙ members_text order depth members (Ends ∷ rest)
+      ∙ ap (λ d. texts order members ++ after order d rest) (lowered depth)
   node_text order depth (Row items) rest =
-      ap (λ m. one_text order (suc depth) m) (append_assoc (walk_in items) (Ends ∷ []) rest) ∙ members_text order depth items (Ends ∷ rest) ∙ ap (λ d. texts order items ++ after order d rest) (lowered depth)
+      ap (λ m. one_text order (suc depth) m) (append_assoc (walk_in items) (Ends ∷ []) rest)
+      ∙ members_text order depth items (Ends ∷ rest)
+      ∙ ap (λ d. texts order items ++ after order d rest) (lowered depth)
 
-  members_text : (order : Order) (depth : ℕ) (members : Members) (rest : List Met) → one_text order (suc depth) (walk_in members ++ rest) ≡ texts order members ++ one_text order (suc depth) rest
+  members_text : (order : Order) (depth : ℕ) (members : Members) (rest : List Met)
+      → one_text order (suc depth) (walk_in members ++ rest) ≡ texts order members ++ one_text order (suc depth) rest
   members_text order depth End rest = refl
   members_text order depth (Here n more) rest =
-      ap (λ m. one_text order (suc depth) m) (append_assoc (walk n) (walk_in more) rest) ∙ node_text order (suc depth) n (walk_in more ++ rest)
-      ∙ ap (λ l. text order n ++ l) (members_text order depth more rest) ∙ sym (append_assoc (text order n) (texts order more) (one_text order (suc depth) rest))
+      ap (λ m. one_text order (suc depth) m) (append_assoc (walk n) (walk_in more) rest)
+      ∙ node_text order (suc depth) n (walk_in more ++ rest)
+      ∙ ap (λ l. text order n ++ l) (members_text order depth more rest)
+      ∙ sym (append_assoc (text order n) (texts order more) (one_text order (suc depth) rest))
   members_text order depth (Absent more) rest = members_text order depth more rest
 
 mutual
@@ -44,25 +52,32 @@ mutual
   node_behind depth (Text index) rest = refl
   node_behind depth (Bytes bytes) rest = refl
   node_behind depth (Group members) rest =
-      ap (λ m. behind_one (suc depth) m) (append_assoc (walk_in members) (Ends ∷ []) rest) ∙ members_behind depth members (Ends ∷ rest) ∙ ap (λ d. behind d rest) (lowered depth)
+      ap (λ m. behind_one (suc depth) m) (append_assoc (walk_in members) (Ends ∷ []) rest)
+      ∙ members_behind depth members (Ends ∷ rest) ∙ ap (λ d. behind d rest) (lowered depth)
   node_behind depth (Row items) rest =
-      ap (λ m. behind_one (suc depth) m) (append_assoc (walk_in items) (Ends ∷ []) rest) ∙ members_behind depth items (Ends ∷ rest) ∙ ap (λ d. behind d rest) (lowered depth)
+      ap (λ m. behind_one (suc depth) m) (append_assoc (walk_in items) (Ends ∷ []) rest)
+      ∙ members_behind depth items (Ends ∷ rest) ∙ ap (λ d. behind d rest) (lowered depth)
 
-  pub members_behind : (depth : ℕ) (members : Members) (rest : List Met) → behind_one (suc depth) (walk_in members ++ rest) ≡ behind_one (suc depth) rest
+  pub members_behind : (depth : ℕ) (members : Members) (rest : List Met)
+      → behind_one (suc depth) (walk_in members ++ rest) ≡ behind_one (suc depth) rest
   members_behind depth End rest = refl
   members_behind depth (Here n more) rest =
-      ap (λ m. behind_one (suc depth) m) (append_assoc (walk n) (walk_in more) rest) ∙ node_behind (suc depth) n (walk_in more ++ rest) ∙ members_behind depth more rest
+      ap (λ m. behind_one (suc depth) m) (append_assoc (walk n) (walk_in more) rest)
+      ∙ node_behind (suc depth) n (walk_in more ++ rest) ∙ members_behind depth more rest
   members_behind depth (Absent more) rest = members_behind depth more rest
 
 -- what is put of a tree
 pub tree_text : (order : Order) (n : Node) → one_text order 0 (walk n) ≡ text order n
-tree_text order n = ap (λ m. one_text order 0 m) (sym (append-nil (walk n))) ∙ node_text order 0 n [] ∙ append-nil (text order n)
+tree_text order n =
+    ap (λ m. one_text order 0 m) (sym (append-nil (walk n))) ∙ node_text order 0 n [] ∙ append-nil (text order n)
 
 -- what is put of a member
-pub members_at : (order : Order) (k : ℕ) (members : Members) (rest : List Met) → k < count members → one_text order 0 (behind_many k (walk_in members ++ rest)) ≡ text_at order k members
+pub members_at : (order : Order) (k : ℕ) (members : Members) (rest : List Met) → k < count members
+    → one_text order 0 (behind_many k (walk_in members ++ rest)) ≡ text_at order k members
 members_at order k End rest h = absurd (omega arith)
 members_at order zero (Here n more) rest h =
-    ap (λ m. one_text order 0 m) (append_assoc (walk n) (walk_in more) rest) ∙ node_text order 0 n (walk_in more ++ rest) ∙ append-nil (text order n)
+    ap (λ m. one_text order 0 m) (append_assoc (walk n) (walk_in more) rest)
+    ∙ node_text order 0 n (walk_in more ++ rest) ∙ append-nil (text order n)
 members_at order zero (Absent more) rest h = refl
 members_at order (suc k) (Here n more) rest h =
     ap (λ m. one_text order 0 (behind_many k m)) (ap (λ m. behind_one 0 m) (append_assoc (walk n) (walk_in more) rest) ∙ node_behind 0 n (walk_in more ++ rest))
@@ -100,15 +115,18 @@ many_more zero ahead = refl
 many_more (suc k) ahead = many_more k (behind_one 0 ahead)
 
 -- what is put of members, one behind another
-many_ahead : (order : Order) (k n : ℕ) (members : Members) (rest : List Met) → k + n ≤ count members → many_text order n (behind_many k (walk_in members ++ rest)) ≡ texts_from order k n members
+many_ahead : (order : Order) (k n : ℕ) (members : Members) (rest : List Met) → k + n ≤ count members
+    → many_text order n (behind_many k (walk_in members ++ rest)) ≡ texts_from order k n members
 many_ahead order k zero members rest h = refl
 many_ahead order k (suc n) members rest h =
     ap (λ l. l ++ many_text order n (behind_one 0 (behind_many k (walk_in members ++ rest)))) (members_at order k members rest (omega (arith, h)))
     ∙ ap (λ a. text_at order k members ++ many_text order n a) (many_more k (walk_in members ++ rest))
     ∙ ap (λ l. text_at order k members ++ l) (many_ahead order (suc k) n members rest (omega (arith, h)))
 
-pub some_ahead : (order : Order) (k n : ℕ) (at : Node) (ahead : List Met) → HasMembers (k + n) at → ahead ≡ behind_many k (walked (walk at)).ahead → many_text order n ahead ≡ some_text order k n at
-some_ahead order k n (Group members) ahead h is = ap (λ m. many_text order n m) is ∙ many_ahead order k n members (Ends ∷ []) h
+pub some_ahead : (order : Order) (k n : ℕ) (at : Node) (ahead : List Met) → HasMembers (k + n) at
+    → ahead ≡ behind_many k (walked (walk at)).ahead → many_text order n ahead ≡ some_text order k n at
+some_ahead order k n (Group members) ahead h is =
+    ap (λ m. many_text order n m) is ∙ many_ahead order k n members (Ends ∷ []) h
 some_ahead order k n (Num width little bits) ahead h is = absurd h
 some_ahead order k n (Line bytes) ahead h is = absurd h
 some_ahead order k n (Ref strong wanted target) ahead h is = absurd h

@@ -54,7 +54,8 @@ one_text order depth (met ∷ rest) =
 -- and what is ahead behind that step
 abbrev pub behind_one : ℕ → List Met → List Met
 behind_one depth [] = []
-behind_one depth (met ∷ rest) = where_open (depth_after depth (step_of met)) (behind_one (depth_after depth (step_of met)) rest) rest
+behind_one depth (met ∷ rest) =
+    where_open (depth_after depth (step_of met)) (behind_one (depth_after depth (step_of met)) rest) rest
 
 -- the bytes of so many nodes or absent members that are ahead
 abbrev pub many_text : Order → ℕ → List Met → List ℕ

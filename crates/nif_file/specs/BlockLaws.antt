@@ -9,7 +9,8 @@ use Rattle.nif_layout.specs.PassLaws.{split}
 use Rattle.nif_file.specs.Files.{block_text, blocks_text, block_nodes, AreBlocks}
 use Rattle.nif_file.specs.FileFails.{BlocksRead}
 
-pub blocks_split : (S : Schema) (E : Env) (blocks : List Block) (k : ℕ) (at next : Point) → AreBlocks S E k blocks → Passes (blocks_text S E k blocks) (block_nodes blocks) at next
+pub blocks_split : (S : Schema) (E : Env) (blocks : List Block) (k : ℕ) (at next : Point) → AreBlocks S E k blocks
+    → Passes (blocks_text S E k blocks) (block_nodes blocks) at next
     → BlocksRead S E k (length blocks) blocks at next
 blocks_split S E [] k at next are p =
     let place : next.place ≡ at.place = omega (arith, p.place) in

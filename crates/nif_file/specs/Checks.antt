@@ -40,7 +40,8 @@ member_fault S name number E =
 abbrev pub header_check : Schema → Check Stop
 header_check S [] f got = line_fault (line_in got)
 header_check S (earlier ∷ before) f None = None
-header_check S (earlier ∷ before) f (Some node) = member_fault S f.name (number_in false node) (behind f (Some node) (earlier ∷ before))
+header_check S (earlier ∷ before) f (Some node) =
+    member_fault S f.name (number_in false node) (behind f (Some node) (earlier ∷ before))
 
 -- Where the header has an index of types, it has their names and the number of them.
 abbrev pub types_fault : Env → Option Stop

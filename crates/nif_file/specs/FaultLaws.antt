@@ -12,11 +12,14 @@ use Rattle.nif_decode.specs.declared.faults.ValueFault.TheVariants as fault
 use Rattle.nif_file.specs.declared.faults.FileFault.TheVariants as file
 
 -- what stops a header stops its file
-pub header_stops_file : (S : Schema) (bytes : List ℕ) (stop : Stop) → HeaderStops S (length bytes) (start_of bytes) stop → FileStops S bytes stop
+pub header_stops_file : (S : Schema) (bytes : List ℕ) (stop : Stop)
+    → HeaderStops S (length bytes) (start_of bytes) stop → FileStops S bytes stop
 header_stops_file S bytes stop (inl bad) = inl bad
 header_stops_file S bytes stop (inr bad) = inr (bad.0, bad.1, bad.2, inl bad.3)
 
-pub fault_value : (f : ValueFault) → fault_of f ≢ file.ReadFault → fault_of f ≢ file.NoMemory → (v : Fault) × (cause f ≡ OfValue v) × ((total : ℕ) → of_value total v ≡ record { fault = fault_of f; known = known total v })
+pub fault_value : (f : ValueFault) → fault_of f ≢ file.ReadFault → fault_of f ≢ file.NoMemory
+    → (v : Fault) × (cause f ≡ OfValue v) ×
+        ((total : ℕ) → of_value total v ≡ record { fault = fault_of f; known = known total v })
 fault_value (fault.Ended at) r m = (plain.Ended at, refl, λ total. refl)
 fault_value fault.TooLong r m = (plain.TooLong, refl, λ total. refl)
 fault_value (fault.LineTooLong at) r m = (plain.LineTooLong at, refl, λ total. refl)

@@ -65,7 +65,8 @@ TypeFails S total E k at stop = TypeFailsBy (index_word E k) S total E k at stop
 -- the type of block k is read
 abbrev pub TypeReads : Schema → Env → ℕ → ℕ → Point → Point → Type 0
 TypeReads S E k kind at next =
-    IsBlockType S kind × IsIndexed S E k kind × Passes (name_where (index_word E k) (order_in E) (name_of S kind)) 0 at next
+    IsBlockType S kind × IsIndexed S E k kind
+    × Passes (name_where (index_word E k) (order_in E) (name_of S kind)) 0 at next
 
 -- ---- a block
 
@@ -98,12 +99,14 @@ ValueFails S total E k kind at stop =
 -- behind the type: the zero word fails, or what follows it does
 abbrev pub FrameFails : Schema → ℕ → Env → ℕ → ℕ → Point → Stop → Type 0
 FrameFails S total E k kind at stop =
-    ZeroFails total E k at stop ⊎ ((next : Point) × Passes (zero_word E) 0 at next × ValueFails S total E k kind next stop)
+    ZeroFails total E k at stop
+    ⊎ ((next : Point) × Passes (zero_word E) 0 at next × ValueFails S total E k kind next stop)
 
 -- block k fails
 abbrev pub BlockFails : Schema → ℕ → Env → ℕ → Point → Stop → Type 0
 BlockFails S total E k at stop =
-    TypeFails S total E k at stop ⊎ ((kind : ℕ) × (next : Point) × TypeReads S E k kind at next × FrameFails S total E k kind next stop)
+    TypeFails S total E k at stop
+    ⊎ ((kind : ℕ) × (next : Point) × TypeReads S E k kind at next × FrameFails S total E k kind next stop)
 
 -- ---- all blocks
 
@@ -114,13 +117,15 @@ BlockReads S E k block at next = IsBlock S E k block × Passes (block_text S E k
 abbrev pub BlocksRead : Schema → Env → ℕ → ℕ → List Block → Point → Point → Type 0
 BlocksRead S E k zero blocks at next = (blocks ≡ []) × (next ≡ at)
 BlocksRead S E k (suc n) blocks at next =
-    (block : Block) × (rest : List Block) × (mid : Point) × (blocks ≡ block ∷ rest) × BlockReads S E k block at mid × BlocksRead S E (k + 1) n rest mid next
+    (block : Block) × (rest : List Block) × (mid : Point) × (blocks ≡ block ∷ rest) × BlockReads S E k block at mid
+    × BlocksRead S E (k + 1) n rest mid next
 
 -- the first of them are read, and the next one fails
 abbrev pub BlocksFail : Schema → ℕ → Env → ℕ → ℕ → Point → Stop → Type 0
 BlocksFail S total E k zero at stop = ⊥
 BlocksFail S total E k (suc n) at stop =
-    BlockFails S total E k at stop ⊎ ((block : Block) × (next : Point) × BlockReads S E k block at next × BlocksFail S total E (k + 1) n next stop)
+    BlockFails S total E k at stop
+    ⊎ ((block : Block) × (next : Point) × BlockReads S E k block at next × BlocksFail S total E (k + 1) n next stop)
 
 -- ---- the footer, and the file
 
@@ -150,7 +155,8 @@ HeaderReads S members at next = IsHeaderLine S members × Passes (header_text S 
 
 -- the members of the header fail, or one is refused
 abbrev pub HeaderFails : Schema → ℕ → Point → Stop → Type 0
-HeaderFails S total at stop = LineFails S (header_context S) header_depth None 0 (of_value total) (header_check S) (header_line S) [] at stop
+HeaderFails S total at stop =
+    LineFails S (header_context S) header_depth None 0 (of_value total) (header_check S) (header_line S) [] at stop
 
 -- the first byte of a file, with the node of its header counted
 abbrev pub start_of : List ℕ → Point

@@ -19,7 +19,9 @@ OneFile S = (bytes : List ℕ) → AreBytes bytes → (F G : File) → IsFile S 
 
 -- their fault is known at one place
 abbrev pub OnePlace : Schema → Type 0
-OnePlace S = (bytes : List ℕ) → AreBytes bytes → (fault : FileFault) (j k : ℕ) → IsKnown S bytes fault j → IsKnown S bytes fault k → j ≡ k
+OnePlace S =
+    (bytes : List ℕ) → AreBytes bytes → (fault : FileFault) (j k : ℕ) → IsKnown S bytes fault j
+    → IsKnown S bytes fault k → j ≡ k
 
 -- ---- the size of a file is the length of its text
 

@@ -84,7 +84,8 @@ abbrev pub zero_word : Env → List ℕ
 zero_word E = zero_where (has_zero_word (version_in E))
 
 abbrev pub block_text : Schema → Env → ℕ → Block → List ℕ
-block_text S E k block = name_where (index_word E k) (order_in E) (name_of S block.kind) ++ (zero_word E ++ text (order_in E) block.node)
+block_text S E k block =
+    name_where (index_word E k) (order_in E) (name_of S block.kind) ++ (zero_word E ++ text (order_in E) block.node)
 
 -- The type is abstract.
 abbrev pub is_abstract_type : What → Bool
@@ -102,7 +103,8 @@ pub record IsBlockType (S : Schema) (kind : ℕ) : Type 0 where
 
 -- The index word of a block, in a file that is indexed, names its type.
 abbrev pub IsIndexed : Schema → Env → ℕ → ℕ → Type 0
-IsIndexed S E k kind = IfSome (index_word E k) (λ word. slice_get (type_names E) (type_place word) ≡ Some (name_of S kind))
+IsIndexed S E k kind =
+    IfSome (index_word E k) (λ word. slice_get (type_names E) (type_place word) ≡ Some (name_of S kind))
 
 -- what a block of a type is
 abbrev pub block_kind : Schema → Env → ℕ → Kind

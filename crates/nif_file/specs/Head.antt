@@ -51,7 +51,8 @@ bs_version S E =
 
 -- An `Endian Type` of 0 makes the file big, and one of 1 little; so it is without that member.
 abbrev pub order_in : Env → Order
-order_in E = option_map_or (λ at. if number_in false at == 0 then Big else Little) (member (codes "Endian Type") E) Little
+order_in E =
+    option_map_or (λ at. if number_in false at == 0 then Big else Little) (member (codes "Endian Type") E) Little
 
 -- What decides how the next member of the header is read: no block, owner or string is there.
 abbrev pub header_context : Schema → Env → Context

@@ -27,14 +27,16 @@ MemberReads S E f (Some node) at next =
     (present S (header_context S E) 0 E f ≡ true)
     × FormShape S (header_context S E) header_depth (form_of S (header_context S E) None 0 E f) node
     × Reads (header_context S E).order node at next
-MemberReads S E f None at next = (present S (header_context S E) 0 E f ≡ false) × (at.nodes < most_nodes) × (next ≡ one_more at)
+MemberReads S E f None at next =
+    (present S (header_context S E) 0 E f ≡ false) × (at.nodes < most_nodes) × (next ≡ one_more at)
 
 -- The first fields of these are read and not refused, which leaves the others, behind all that was read.
 abbrev pub PartReads : Schema → List (Option Node) → List Field → Env → Point → List Field → Env → Point → Type 0
 PartReads S [] fields E at left E' next = (left ≡ fields) × (E' ≡ E) × (next ≡ at)
 PartReads S (got ∷ gots) [] E at left E' next = ⊥
 PartReads S (got ∷ gots) (f ∷ fields) E at left E' next =
-    (mid : Point) × MemberReads S E f got at mid × (header_check S E f got ≡ None) × PartReads S gots fields (behind f got E) mid left E' next
+    (mid : Point) × MemberReads S E f got at mid × (header_check S E f got ≡ None)
+    × PartReads S gots fields (behind f got E) mid left E' next
 
 -- the member at a place
 abbrev pub member_at : Members → ℕ → Option Node
@@ -48,5 +50,6 @@ member_at (Absent rest) (suc k) = member_at rest k
 abbrev pub IsPlaceOf : Name → List Field → Option ℕ → Type 0
 IsPlaceOf name fields None = list_any (λ f. bytes_eq name f.name) fields ≡ false
 IsPlaceOf name [] (Some k) = ⊥
-IsPlaceOf name (f ∷ fields) (Some zero) = (bytes_eq name f.name ≡ true) × (list_any (λ f. bytes_eq name f.name) fields ≡ false)
+IsPlaceOf name (f ∷ fields) (Some zero) =
+    (bytes_eq name f.name ≡ true) × (list_any (λ f. bytes_eq name f.name) fields ≡ false)
 IsPlaceOf name (f ∷ fields) (Some (suc k)) = (bytes_eq name f.name ≡ false) × IsPlaceOf name fields (Some k)

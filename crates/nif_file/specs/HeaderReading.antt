@@ -52,7 +52,8 @@ pub record StopsThere (S : Schema) (fault : FileFault) (rest : Option (List ℕ)
 pub record HasNoHeader {S : Type 0} (left : S → Option (List ℕ)) (still : S → S → Type 0) (faults : S → ℕ) (schema : Schema) (old new : Taker S) (fault : FileFault) : Type 0 where
   pub went : Went still faults old new
   pub read : fault ≡ file.ReadFault → Rose (faults (source_of old)) (faults (source_of new))
-  pub stops : fault ≢ file.ReadFault → fault ≢ file.NoMemory → IfSome (left_of left old) (StopsThere schema fault (left (source_of new)))
+  pub stops : fault ≢ file.ReadFault → fault ≢ file.NoMemory
+      → IfSome (left_of left old) (StopsThere schema fault (left (source_of new)))
 
 -- the fault of a value as one of a file
 abbrev pub fault_of : ValueFault → FileFault
@@ -81,9 +82,12 @@ pub record HasHeader {S : Type 0} (left : S → Option (List ℕ)) (still : S �
   pub trees : after.trees ≡ before.trees ++ (header.tree.run.key, node.Group members) ∷ []
   pub found : find after.trees header.tree.run.key ≡ Some (node.Group members)
 
-abbrev pub ReadsHeader : {S : Type 0} → (S → Option (List ℕ)) → (S → S → Type 0) → (S → ℕ) → Schema → Taker S → Taker S → Trees → Trees → Result Header FileFault → Type 0
-ReadsHeader left still faults schema old new before after (Ok header) = HasHeader left still faults schema old new before after header
-ReadsHeader left still faults schema old new before after (Err fault) = HasNoHeader left still faults schema old new fault × (after.trees ≡ before.trees)
+abbrev pub ReadsHeader : {S : Type 0} → (S → Option (List ℕ)) → (S → S → Type 0) → (S → ℕ) → Schema → Taker S
+    → Taker S → Trees → Trees → Result Header FileFault → Type 0
+ReadsHeader left still faults schema old new before after (Ok header) =
+    HasHeader left still faults schema old new before after header
+ReadsHeader left still faults schema old new before after (Err fault) =
+    HasNoHeader left still faults schema old new fault × (after.trees ≡ before.trees)
 
 -- ---- where the reader stands
 

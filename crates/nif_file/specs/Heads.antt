@@ -59,13 +59,16 @@ context_of context blocks strings = record {
 abbrev pub IsNext : Schema → Env → Field → Option Node → Type 0
 IsNext S E f None = present S (header_context S E) 0 E f ≡ false
 IsNext S E f (Some node) =
-    (present S (header_context S E) 0 E f ≡ true) × FormShape S (header_context S E) header_depth (form_of S (header_context S E) None 0 E f) node
+    (present S (header_context S E) 0 E f ≡ true)
+    × FormShape S (header_context S E) header_depth (form_of S (header_context S E) None 0 E f) node
 
 -- The members of the first fields are read, and none is refused; these bytes spell them, whatever stands behind.
 pub record IsPart (S : Schema) (count : ℕ) (held : Members) (bytes : List ℕ) (counted : ℕ) : Type 0 where
   pub gots : List (Option Node)
   pub is : held ≡ with_members gots End
-  pub reads : (rest : List ℕ) → PartReads S gots (header_line S) [] (start_of (bytes ++ rest)) (drop count (header_line S)) (head_of S held) (record { nodes = counted; place = length bytes; left = rest })
+  pub reads : (rest : List ℕ)
+      → PartReads S gots (header_line S) [] (start_of (bytes ++ rest)) (drop count (header_line S)) (head_of S held)
+          (record { nodes = counted; place = length bytes; left = rest })
 
 -- the place of the first field of a name
 abbrev pub place_in : Name → List Field → Option ℕ

@@ -38,9 +38,12 @@ mutual
 pub line_length : {Why : Type 0} (order : Env → Order) (here : Env → Field → Bool) (V : Env → Field → Node → Type 0) (check : Check Why) (fields : List Field) (E : Env) (members : Members)
     → Fields here V check fields E members → length (fields_text order fields E members) ≡ size_in members
 line_length order here V check [] E members h = sym (ap size_in h)
-line_length {Why} order here V check (f ∷ fields) E members h = by (here E f) members h (λ got rest k. line_length order here V check fields (behind f got E) rest k)
+line_length {Why} order here V check (f ∷ fields) E members h =
+    by (here E f) members h (λ got rest k. line_length order here V check fields (behind f got E) rest k)
   where
-    by : (b : Bool) (members : Members) → Member b (V E f) (λ got rest. (check E f got ≡ None) × Fields here V check fields (behind f got E) rest) members
+    by : (b : Bool) (members : Members)
+        → Member b (V E f)
+            (λ got rest. (check E f got ≡ None) × Fields here V check fields (behind f got E) rest) members
         → ((got : Option Node) (rest : Members) → Fields here V check fields (behind f got E) rest → length (fields_text order fields (behind f got E) rest) ≡ size_in rest)
         → length (fields_text order (f ∷ fields) E members) ≡ size_in members
     by true members h ih =
@@ -55,7 +58,8 @@ line_length {Why} order here V check (f ∷ fields) E members h = by (here E f) 
         let whole : P (Absent h.0) = ih None h.0 h.2.1 in
         subst P (sym h.1) whole
 
-name_length : (o : Option ℕ) (order : Order) (name : List ℕ) → length (name_where o order name) ≡ option_map_or (λ word. 0) o (4 + length name)
+name_length : (o : Option ℕ) (order : Order) (name : List ℕ)
+    → length (name_where o order name) ≡ option_map_or (λ word. 0) o (4 + length name)
 name_length (Some word) order name = refl
 name_length None order name =
     let a = length-append (number (is_little order) 4 (length name)) name in
@@ -76,7 +80,8 @@ block_length S E k block =
     let e = length_text (order_in E) block.node in
     omega arith
 
-blocks_length : (S : Schema) (E : Env) (blocks : List Block) (k : ℕ) → length (blocks_text S E k blocks) ≡ blocks_size S E k blocks
+blocks_length : (S : Schema) (E : Env) (blocks : List Block) (k : ℕ)
+    → length (blocks_text S E k blocks) ≡ blocks_size S E k blocks
 blocks_length S E [] k = refl
 blocks_length S E (block ∷ blocks) k =
     let a = length-append (block_text S E k block) (blocks_text S E (k + 1) blocks) in
@@ -84,7 +89,8 @@ blocks_length S E (block ∷ blocks) k =
     let c = blocks_length S E blocks (k + 1) in
     omega arith
 
-header_length : (S : Schema) (header : Node) → IsHeader S header → length (header_text S (members_of header)) ≡ size header
+header_length : (S : Schema) (header : Node) → IsHeader S header
+    → length (header_text S (members_of header)) ≡ size header
 header_length S header is =
     let P : Node → Type 0 = λ h. length (header_text S (members_of h)) ≡ size h in
     subst P (sym is.group) (line_length (λ E. (header_context S E).order) _ _ _ (header_line S) [] is.members is.each)

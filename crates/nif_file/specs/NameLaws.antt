@@ -13,7 +13,8 @@ pub found_by : (b : Bool) (n kind : ℕ) → (if b then Some n else None) ≡ So
 found_by true n kind e = cc
 found_by false n kind e = absurd (cc)
 
-pub found_number : (S : Schema) (o : Option ℕ) (kind : ℕ) → option_and_then (λ number. if has_block S number then Some number else None) o ≡ Some kind → o ≡ Some kind
+pub found_number : (S : Schema) (o : Option ℕ) (kind : ℕ)
+    → option_and_then (λ number. if has_block S number then Some number else None) o ≡ Some kind → o ≡ Some kind
 found_number S None kind e = absurd (cc)
 found_number S (Some n) kind e = ap (λ m. Some m) (found_by (has_block S n) n kind e)
 

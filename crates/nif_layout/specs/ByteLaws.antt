@@ -72,7 +72,8 @@ value_again false k n h =
     let e : take k (reverse (low_first k n) ++ []) ≡ reverse (low_first k n) = take_front k (reverse (low_first k n)) [] (length_number false k n) in
     ap low_value (ap reverse (ap (λ s. take k s) (sym (append-nil (reverse (low_first k n)))) ∙ e) ∙ reverse-reverse (low_first k n)) ∙ value-low k n h
 
-pub number_again : (little : Bool) (k n : ℕ) (rest : List ℕ) → n < 256 ^ k → number_at little k (number little k n ++ rest) ≡ n
+pub number_again : (little : Bool) (k n : ℕ) (rest : List ℕ) → n < 256 ^ k
+    → number_at little k (number little k n ++ rest) ≡ n
 number_again true k n rest h = ap low_value (take_front k (low_first k n) rest (length_low k n)) ∙ value-low k n h
 number_again false k n rest h =
     ap low_value (ap reverse (take_front k (reverse (low_first k n)) rest (length_number false k n)) ∙ reverse-reverse (low_first k n)) ∙ value-low k n h

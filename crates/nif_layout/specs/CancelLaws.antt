@@ -26,7 +26,8 @@ abbrev pub AllCancel : (Members → List ℕ) → (Members → Type 0) → (Memb
 AllCancel T V W = (a b : Members) (x y : List ℕ) → V a → W b → T a ++ x ≡ T b ++ y → (a ≡ b) × (x ≡ y)
 
 pub member : (order : Order) (T : Option Node → Members → List ℕ) (here : Bool) (V W : Node → Type 0) (R Q : Option Node → Members → Type 0)
-    → Cancels order V W → ((got : Option Node) → AllCancel (T got) (R got) (Q got)) → AllCancel (member_text order T) (Member here V R) (Member here W Q)
+    → Cancels order V W → ((got : Option Node) → AllCancel (T got) (R got) (Q got))
+    → AllCancel (member_text order T) (Member here V R) (Member here W Q)
 member order T true V W R Q first rest a b x y ha hb e =
     let e' : text order ha.0 ++ (T (Some ha.0) ha.1 ++ x) ≡ text order hb.0 ++ (T (Some hb.0) hb.1 ++ y) =
     rw (← append_assoc (text order ha.0) (T (Some ha.0) ha.1) x, ← append_assoc (text order hb.0) (T (Some hb.0) hb.1) y) (rw (ha.2, hb.2) at e) in
@@ -49,7 +50,8 @@ member order T false V W R Q first rest a b x y ha hb e =
 
 pub fields_cancel : {Why : Type 0} (order : Env → Order) (here : Env → Field → Bool) (V W : Env → Field → Node → Type 0) (check : Check Why)
     → ((E : Env) (f : Field) → Cancels (order E) (V E f) (W E f))
-    → (fields : List Field) (E : Env) → AllCancel (fields_text order fields E) (Fields here V check fields E) (Fields here W check fields E)
+    → (fields : List Field) (E : Env)
+    → AllCancel (fields_text order fields E) (Fields here V check fields E) (Fields here W check fields E)
 fields_cancel order here V W check each [] E a b x y ha hb e = (ha ∙ sym hb, e)
 fields_cancel order here V W check each (f ∷ fields) E a b x y ha hb e =
     member (order E) (λ got. fields_text order fields (behind f got E)) (here E f) (V E f) (W E f) _ _ (each E f)
@@ -57,11 +59,14 @@ fields_cancel order here V W check each (f ∷ fields) E a b x y ha hb e =
 
 -- In one order the bytes of the members of a line are those of the members.
 pub same_text : {Why : Type 0} (order : Order) (here : Env → Field → Bool) (V : Env → Field → Node → Type 0) (check : Check Why)
-    (fields : List Field) (E : Env) (a : Members) → Fields here V check fields E a → fields_text (λ E. order) fields E a ≡ texts order a
+    (fields : List Field) (E : Env) (a : Members) → Fields here V check fields E a
+    → fields_text (λ E. order) fields E a ≡ texts order a
 same_text order here V check [] E a h = ap (texts order) (sym h)
-same_text order here V check (f ∷ fields) E a h = by (here E f) a h (λ got rest k. same_text order here V check fields (behind f got E) rest k)
+same_text order here V check (f ∷ fields) E a h =
+    by (here E f) a h (λ got rest k. same_text order here V check fields (behind f got E) rest k)
   where
-    by : (b : Bool) (a : Members) → Member b (V E f) (λ got rest. (check E f got ≡ None) × Fields here V check fields (behind f got E) rest) a
+    by : (b : Bool) (a : Members)
+        → Member b (V E f) (λ got rest. (check E f got ≡ None) × Fields here V check fields (behind f got E) rest) a
         → ((got : Option Node) (rest : Members) → Fields here V check fields (behind f got E) rest → fields_text (λ E. order) fields (behind f got E) rest ≡ texts order rest)
         → fields_text (λ E. order) (f ∷ fields) E a ≡ texts order a
     by true End h ih = let e : End ≡ Here h.0 h.1 = h.2 in absurd (cc)
@@ -86,7 +91,8 @@ in_one_order order End = refl
 in_one_order order (Here node rest) = refl
 in_one_order order (Absent rest) = refl
 
-pub one_order_cancel : (order : Order) (V W : Members → Type 0) → AllCancel (member_text order (λ got. texts order)) V W → AllCancel (texts order) V W
+pub one_order_cancel : (order : Order) (V W : Members → Type 0)
+    → AllCancel (member_text order (λ got. texts order)) V W → AllCancel (texts order) V W
 one_order_cancel order V W h a b x y ha hb e =
     h a b x y ha hb (ap (λ s. s ++ x) (in_one_order order a) ∙ e ∙ ap (λ s. s ++ y) (sym (in_one_order order b)))
 
@@ -115,13 +121,15 @@ pub place_fits : (most : ℕ) (place : Option ℕ) → most < 2 ^ 32 → IsBelow
 place_fits most None h b = lit< tt
 place_fits most (Some k) h b = omega arith
 
-pub place_inj : (most : ℕ) (a b : Option ℕ) → most < 2 ^ 32 → IsBelow most a → IsBelow most b → place_or_none a ≡ place_or_none b → a ≡ b
+pub place_inj : (most : ℕ) (a b : Option ℕ) → most < 2 ^ 32 → IsBelow most a → IsBelow most b
+    → place_or_none a ≡ place_or_none b → a ≡ b
 place_inj most None None h ha hb e = refl
 place_inj most None (Some k) h ha hb e = absurd (omega arith)
 place_inj most (Some j) None h ha hb e = absurd (omega arith)
 place_inj most (Some j) (Some k) h ha hb e = ap (λ n. Some n) e
 
-pub place_cancel : (little : Bool) (most : ℕ) (a b : Option ℕ) (x y : List ℕ) → most < 2 ^ 32 → IsBelow most a → IsBelow most b
+pub place_cancel : (little : Bool) (most : ℕ) (a b : Option ℕ) (x y : List ℕ) → most < 2 ^ 32 → IsBelow most a
+    → IsBelow most b
     → number little 4 (place_or_none a) ++ x ≡ number little 4 (place_or_none b) ++ y → (a ≡ b) × (x ≡ y)
 place_cancel little most a b x y h ha hb e =
     let r = number_front little 4 (place_or_none a) (place_or_none b) x y (place_fits most a h ha) (place_fits most b h hb) e in
@@ -153,8 +161,10 @@ group_cancel order here V W check each fields a b x y ha hb e =
     (ap (λ s. s ++ x) (same_text order here V check fields [] a ha) ∙ e ∙ ap (λ s. s ++ y) (sym (same_text order here W check fields [] b hb)))
 
 -- Two values of one kind that begin the same bytes are one, whatever their bounds of depth.
-pub shape_cancel : (S : Schema) (C : Context) → Fits C → (c d : ℕ) (kind : Kind) → Cancels C.order (Shape S C c kind) (Shape S C d kind)
-shape_cancel S C fits c d (Number width little) a b x y ha hb e = leaf_cancel C fits (Number width little) a b x y ha hb e
+pub shape_cancel : (S : Schema) (C : Context) → Fits C → (c d : ℕ) (kind : Kind)
+    → Cancels C.order (Shape S C c kind) (Shape S C d kind)
+shape_cancel S C fits c d (Number width little) a b x y ha hb e =
+    leaf_cancel C fits (Number width little) a b x y ha hb e
 shape_cancel S C fits c d Line a b x y ha hb e = leaf_cancel C fits Line a b x y ha hb e
 shape_cancel S C fits c d (Ref strong wanted) a b x y ha hb e = leaf_cancel C fits (Ref strong wanted) a b x y ha hb e
 shape_cancel S C fits c d Text a b x y ha hb e = leaf_cancel C fits Text a b x y ha hb e
@@ -168,10 +178,13 @@ shape_cancel S C fits (suc c) (suc d) (Group fields template arg) a b x y ha hb 
     (ha.1 ∙ ap (λ m. node.Group m) r.0 ∙ sym hb.1, r.1)
 shape_cancel S C fits c d Unknown a b x y ha hb e = absurd ha
 
-pub form_shape_cancel : (S : Schema) (C : Context) → Fits C → (c d : ℕ) (form : Form) → Cancels C.order (FormShape S C c form) (FormShape S C d form)
-form_shape_cancel S C fits c d form = form_cancel C.order (Shape S C c) (Shape S C d) (λ k. shape_cancel S C fits c d k) form
+pub form_shape_cancel : (S : Schema) (C : Context) → Fits C → (c d : ℕ) (form : Form)
+    → Cancels C.order (FormShape S C c form) (FormShape S C d form)
+form_shape_cancel S C fits c d form =
+    form_cancel C.order (Shape S C c) (Shape S C d) (λ k. shape_cancel S C fits c d k) form
 
-pub line_cancel : {Why : Type 0} (S : Schema) (at : Env → Context) → ((E : Env) → Fits (at E)) → (c d : ℕ) (template : Option ℕ) (arg : ℕ) (check : Check Why) (fields : List Field) (E : Env)
+pub line_cancel : {Why : Type 0} (S : Schema) (at : Env → Context) → ((E : Env) → Fits (at E))
+    → (c d : ℕ) (template : Option ℕ) (arg : ℕ) (check : Check Why) (fields : List Field) (E : Env)
     → AllCancel (fields_text (λ E. (at E).order) fields E) (LineShape S at c template arg check fields E) (LineShape S at d template arg check fields E)
 line_cancel S at fits c d template arg check fields E =
     fields_cancel (λ E. (at E).order) (λ E f. present S (at E) arg E f) (λ E f. FormShape S (at E) c (form_of S (at E) template arg E f)) (λ E f. FormShape S (at E) d (form_of S (at E) template arg E f))

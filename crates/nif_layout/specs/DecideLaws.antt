@@ -31,8 +31,10 @@ counting at w = record { place = w.place; bytes = w.bytes }
 abbrev pub Decided : Order → (Node → Type 0) → (Point → Fault → Type 0) → Point → Type 0
 Decided order V F at = ((node : Node) × (next : Point) × V node × Reads order node at next) ⊎ ((f : Fault) × F at f)
 
-abbrev pub AllDecided : {Why : Type 0} → (Members → List ℕ) → (Members → Type 0) → (Point → Why → Type 0) → Point → Type 0
-AllDecided {Why} T V F at = ((a : Members) × (next : Point) × V a × Passes (T a) (nodes_in a) at next) ⊎ ((w : Why) × F at w)
+abbrev pub AllDecided : {Why : Type 0} → (Members → List ℕ) → (Members → Type 0) → (Point → Why → Type 0) → Point
+    → Type 0
+AllDecided {Why} T V F at =
+    ((a : Members) × (next : Point) × V a × Passes (T a) (nodes_in a) at next) ⊎ ((w : Why) × F at w)
 
 abbrev pub Decides : Order → (Node → Type 0) → (Point → Fault → Type 0) → Type 0
 Decides order V F = (at : Point) → Within at → Decided order V F at
@@ -41,7 +43,8 @@ Decides order V F = (at : Point) → Within at → Decided order V F at
 abbrev pub AllDecide : {Why : Type 0} → (Members → List ℕ) → (Members → Type 0) → (Point → Why → Type 0) → Type 0
 AllDecide T V F = (at : Point) → Within at → at.nodes ≤ most_nodes → AllDecided T V F at
 
-one_order_decided : (order : Order) (V : Members → Type 0) (F : Point → Fault → Type 0) (at : Point) → AllDecided (member_text order (λ got. texts order)) V F at → AllDecided (texts order) V F at
+one_order_decided : (order : Order) (V : Members → Type 0) (F : Point → Fault → Type 0) (at : Point)
+    → AllDecided (member_text order (λ got. texts order)) V F at → AllDecided (texts order) V F at
 one_order_decided order V F at (inl r) = let P : List ℕ → Type 0 = λ s. Passes s (nodes_in r.0) at r.1 in inl (r.0, r.1, r.2, subst P (in_one_order order r.0) r.3)
 one_order_decided order V F at (inr r) = inr r
 
@@ -69,23 +72,29 @@ then_member by_fault order T V F R Q at w rest (inr r) = inr (by_fault r.0, inl 
 then_absent : {Why : Type 0} (by_fault : Fault → Why) (order : Order) (T : Option Node → Members → List ℕ) (V : Node → Type 0) (F : Point → Fault → Type 0) (R : Option Node → Members → Type 0) (Q : Option Node → Point → Why → Type 0)
     → (at : Point) → (at.nodes < most_nodes) → AllDecided (T None) (R None) (Q None) (one_more at)
     → AllDecided (member_text order T) (Member false V R) (MemberFails by_fault order false V F Q) at
-then_absent by_fault order T V F R Q at n (inl r) = inl (Absent r.0, r.1, (r.0, refl, r.2), count_out (T None r.0) (nodes_in r.0) at r.1 r.3)
+then_absent by_fault order T V F R Q at n (inl r) =
+    inl (Absent r.0, r.1, (r.0, refl, r.2), count_out (T None r.0) (nodes_in r.0) at r.1 r.3)
 then_absent by_fault order T V F R Q at n (inr r) = inr (r.0, inr (n, r.1))
 
 absent_or : {Why : Type 0} (by_fault : Fault → Why) (order : Order) (T : Option Node → Members → List ℕ) (V : Node → Type 0) (F : Point → Fault → Type 0) (R : Option Node → Members → Type 0) (Q : Option Node → Point → Why → Type 0)
-    → (at : Point) → Within at → ((got : Option Node) → AllDecide (T got) (R got) (Q got)) → ((at.nodes < most_nodes) ⊎ (most_nodes ≤ at.nodes))
+    → (at : Point) → Within at → ((got : Option Node) → AllDecide (T got) (R got) (Q got))
+    → ((at.nodes < most_nodes) ⊎ (most_nodes ≤ at.nodes))
     → AllDecided (member_text order T) (Member false V R) (MemberFails by_fault order false V F Q) at
-absent_or by_fault order T V F R Q at w rest (inl n) = then_absent by_fault order T V F R Q at n (rest None (one_more at) (counting at w) (omega (arith, n)))
+absent_or by_fault order T V F R Q at w rest (inl n) =
+    then_absent by_fault order T V F R Q at n (rest None (one_more at) (counting at w) (omega (arith, n)))
 absent_or by_fault order T V F R Q at w rest (inr n) = inr (by_fault (TooManyNodes at.place), inl (n, refl))
 
 pub member_decides : {Why : Type 0} (by_fault : Fault → Why) (order : Order) (T : Option Node → Members → List ℕ) (here : Bool) (V : Node → Type 0) (F : Point → Fault → Type 0) (R : Option Node → Members → Type 0) (Q : Option Node → Point → Why → Type 0)
-    → Decides order V F → ((got : Option Node) → AllDecide (T got) (R got) (Q got)) → AllDecide (member_text order T) (Member here V R) (MemberFails by_fault order here V F Q)
-member_decides by_fault order T true V F R Q first rest at w n = then_member by_fault order T V F R Q at w rest (first at w)
+    → Decides order V F → ((got : Option Node) → AllDecide (T got) (R got) (Q got))
+    → AllDecide (member_text order T) (Member here V R) (MemberFails by_fault order here V F Q)
+member_decides by_fault order T true V F R Q first rest at w n =
+    then_member by_fault order T V F R Q at w rest (first at w)
 member_decides by_fault order T false V F R Q first rest at w n = absent_or by_fault order T V F R Q at w rest (room at)
 
 -- A member that was read is refused, or not, and then the rest is read or fails.
 refused_decided : {Why : Type 0} (refused : Option Why) (T : Members → List ℕ) (V : Members → Type 0) (F : Point → Why → Type 0) (at : Point)
-    → (o : Option Why) → refused ≡ o → AllDecided T V F at → AllDecided T (λ a. (refused ≡ None) × V a) (RefusedOr refused F) at
+    → (o : Option Why) → refused ≡ o → AllDecided T V F at
+    → AllDecided T (λ a. (refused ≡ None) × V a) (RefusedOr refused F) at
 refused_decided refused T V F at None e (inl r) = inl (r.0, r.1, (e, r.2), r.3)
 refused_decided refused T V F at None e (inr r) = inr (r.0, inr (e, r.1))
 refused_decided refused T V F at (Some w) e r = inr (w, inl e)
@@ -105,7 +114,8 @@ fields_decide by_fault order here V F check (f ∷ fields) each E at w n =
     (FieldsFail by_fault order here V F check fields (behind f got E)) at (check E f got) refl
     (fields_decide by_fault order here V F check fields each.1 (behind f got E) at w n)) at w n
 
-pub items_decide : (order : Order) (V : ℕ → Node → Type 0) (F : ℕ → Point → Fault → Type 0) → ((i : ℕ) → Decides order (V i) (F i))
+pub items_decide : (order : Order) (V : ℕ → Node → Type 0) (F : ℕ → Point → Fault → Type 0)
+    → ((i : ℕ) → Decides order (V i) (F i))
     → (i n : ℕ) → AllDecide (texts order) (Items V i n) (ItemsFail order V F i n)
 items_decide order V F each i zero at w n = inl (End, at, refl, nothing at w n)
 items_decide order V F each i (suc k) at w n =

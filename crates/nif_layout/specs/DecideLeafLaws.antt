@@ -20,7 +20,8 @@ use Rattle.nif_layout.specs.RoomLaws.{Enough, enough, passes_skip, skip}
 -- What is read behind the count of a node, or fails there.
 abbrev pub Inside : Order → (Node → Type 0) → (Point → Fault → Type 0) → Point → Type 0
 Inside order V F at =
-    ((node : Node) × (next : Point) × (n : ℕ) × V node × (nodes node ≡ 1 + n) × Passes (text order node) n at next) ⊎ ((f : Fault) × F at f)
+    ((node : Node) × (next : Point) × (n : ℕ) × V node × (nodes node ≡ 1 + n) × Passes (text order node) n at next)
+    ⊎ ((f : Fault) × F at f)
 
 inside_out : (order : Order) (V : Node → Type 0) (F : Point → Fault → Type 0) (at : Point) → at.nodes < most_nodes
     → Inside order V F (one_more at) → Decided order V (Counted (λ f. f) F) at
@@ -32,8 +33,10 @@ inside_out order V F at n (inr r) = inr (r.0, inr (n, r.1))
 
 counted_from : (order : Order) (V : Node → Type 0) (F : Point → Fault → Type 0)
     → ((at : Point) → Within at → at.nodes ≤ most_nodes → Inside order V F at)
-    → (at : Point) → Within at → ((at.nodes < most_nodes) ⊎ (most_nodes ≤ at.nodes)) → Decided order V (Counted (λ f. f) F) at
-counted_from order V F inner at w (inl n) = inside_out order V F at n (inner (one_more at) (counting at w) (omega (arith, n)))
+    → (at : Point) → Within at → ((at.nodes < most_nodes) ⊎ (most_nodes ≤ at.nodes))
+    → Decided order V (Counted (λ f. f) F) at
+counted_from order V F inner at w (inl n) =
+    inside_out order V F at n (inner (one_more at) (counting at w) (omega (arith, n)))
 counted_from order V F inner at w (inr n) = inr (TooManyNodes at.place, inl (n, refl))
 
 pub counted_decides : (order : Order) (V : Node → Type 0) (F : Point → Fault → Type 0)
@@ -41,10 +44,13 @@ pub counted_decides : (order : Order) (V : Node → Type 0) (F : Point → Fault
 counted_decides order V F inner at w = counted_from order V F inner at w (room at)
 
 -- the place or none that a number in range stands for
-pub place_of : (most v : ℕ) (fault : Fault) → v < 2 ^ 32 → ((place : Option ℕ) × IsBelow most place × (place_or_none place ≡ v)) ⊎ (range_fault most v fault ≡ Some fault)
+pub place_of : (most v : ℕ) (fault : Fault) → v < 2 ^ 32
+    → ((place : Option ℕ) × IsBelow most place × (place_or_none place ≡ v)) ⊎ (range_fault most v fault ≡ Some fault)
 place_of most v fault h = by (eqb v 0xFFFFFFFF) (ltb v most) refl refl
   where
-    by : (a b : Bool) → eqb v 0xFFFFFFFF ≡ a → ltb v most ≡ b → ((place : Option ℕ) × IsBelow most place × (place_or_none place ≡ v)) ⊎ (range_fault most v fault ≡ Some fault)
+    by : (a b : Bool) → eqb v 0xFFFFFFFF ≡ a → ltb v most ≡ b
+        → ((place : Option ℕ) × IsBelow most place × (place_or_none place ≡ v)) ⊎
+        (range_fault most v fault ≡ Some fault)
     by true b ea eb = inl (None, tt, sym (eqb-true v 0xFFFFFFFF ea))
     by false true ea eb = inl (Some v, ltb-true v most eb, refl)
     by false false ea eb = inr (rw (ea, eb) refl)
@@ -60,8 +66,10 @@ newline_found (suc most) (b ∷ s) k h e = by (eqb b 0x0A) (newline most s) refl
     by : (t : Bool) (o : Option ℕ) → eqb b 0x0A ≡ t → newline most s ≡ o
         → (if t then Some 0 else option_map (λ k. suc k) o) ≡ Some k
         → ((j : ℕ) → AreBytes s → newline most s ≡ Some j
-        → (line : List ℕ) × (rest : List ℕ) × (s ≡ line ++ 0x0A ∷ rest) × AreInLine line × (length line ≡ j) × (j < most))
-        → (line : List ℕ) × (rest : List ℕ) × (b ∷ s ≡ line ++ 0x0A ∷ rest) × AreInLine line × (length line ≡ k) × (k < suc most)
+        → (line : List ℕ) × (rest : List ℕ) × (s ≡ line ++ 0x0A ∷ rest) × AreInLine line × (length line ≡ j)
+        × (j < most))
+        → (line : List ℕ) × (rest : List ℕ) × (b ∷ s ≡ line ++ 0x0A ∷ rest) × AreInLine line × (length line ≡ k)
+        × (k < suc most)
     by true o et eo q ih =
         let same : b ≡ 0x0A = eqb-true b 0x0A et in
         let zero_is : 0 ≡ k = cc in
@@ -78,7 +86,8 @@ pub take_line : (line rest : List ℕ) → take (suc (length line)) (line ++ 0x0
 take_line [] rest = refl
 take_line (b ∷ line) rest = ap (λ x. b ∷ x) (take_line line rest)
 
-number_inside : (C : Context) (width : ℕ) (little : Bool) (at : Point) → Within at → at.nodes ≤ most_nodes → Enough width at
+number_inside : (C : Context) (width : ℕ) (little : Bool) (at : Point) → Within at → at.nodes ≤ most_nodes
+    → Enough width at
     → Inside C.order (IsLeaf C (Number width little)) (λ q w. leaf_fault C (Number width little) q ≡ Some w) at
 number_inside C width little at w n (inl r) = inr (r.0, r.1)
 number_inside C width little at w n (inr r) =
@@ -87,7 +96,8 @@ number_inside C width little at w n (inr r) =
     let t = number_taken order width at.left w.bytes r.1 in
     inl (node.Num width little v, skip width at, 0, (v, refl, t.1), refl, passes_skip width at (number order width v) t.0 r.1 r.2 n)
 
-line_inside : (C : Context) (at : Point) → Within at → at.nodes ≤ most_nodes → (o : Option ℕ) → newline 256 at.left ≡ o → Enough (line_needs o) at
+line_inside : (C : Context) (at : Point) → Within at → at.nodes ≤ most_nodes → (o : Option ℕ)
+    → newline 256 at.left ≡ o → Enough (line_needs o) at
     → Inside C.order (IsLeaf C Line) (λ q w. leaf_fault C Line q ≡ Some w) at
 line_inside C at w n None e (inl r) =
     let P : Option ℕ → Type 0 = λ o. or_else (shortage (line_needs o) at) (line_fault o at.place) ≡ Some r.0 in
@@ -112,7 +122,8 @@ place_inside : (order : Order) (V : Node → Type 0) (make : Option ℕ → Node
     → ((p : Option ℕ) → text order (make p) ≡ number (is_little order) 4 (place_or_none p))
     → Within at → at.nodes ≤ most_nodes → Enough 4 at
     → Inside order V (λ q w. or_else (shortage 4 q) (range_fault most (number_at (is_little order) 4 q.left) fault) ≡ Some w) at
-place_inside order V make most fault at holds one spelled w n (inl r) = inr (r.0, ap (λ x. or_else x (range_fault most (number_at (is_little order) 4 at.left) fault)) r.1)
+place_inside order V make most fault at holds one spelled w n (inl r) =
+    inr (r.0, ap (λ x. or_else x (range_fault most (number_at (is_little order) 4 at.left) fault)) r.1)
 place_inside order V make most fault at holds one spelled w n (inr r) = by (place_of most v fault t.1)
   where
     v : ℕ
@@ -128,7 +139,8 @@ place_inside order V make most fault at holds one spelled w n (inr r) = by (plac
         inl (make p.0, skip 4 at, 0, holds p.0 p.1, one p.0, passes_skip 4 at (text order (make p.0)) e r.1 r.2 n)
     by (inr p) = inr (fault, ap (λ x. or_else x (range_fault most v fault)) r.0 ∙ p)
 
-pub leaf_decides_number : (C : Context) (width : ℕ) (little : Bool) → Decides C.order (IsLeaf C (Number width little)) (LeafFails C (Number width little))
+pub leaf_decides_number : (C : Context) (width : ℕ) (little : Bool)
+    → Decides C.order (IsLeaf C (Number width little)) (LeafFails C (Number width little))
 leaf_decides_number C width little at w =
     counted_decides C.order (IsLeaf C (Number width little)) (λ q x. leaf_fault C (Number width little) q ≡ Some x)
     (λ q hw hn. number_inside C width little q hw hn (enough width q)) at w
@@ -138,7 +150,8 @@ leaf_decides_line C at w =
     counted_decides C.order (IsLeaf C Line) (λ q x. leaf_fault C Line q ≡ Some x)
     (λ q hw hn. line_inside C q hw hn (newline 256 q.left) refl (enough (line_needs (newline 256 q.left)) q)) at w
 
-pub leaf_decides_ref : (C : Context) (strong : Bool) (wanted : Option ℕ) → Decides C.order (IsLeaf C (Ref strong wanted)) (LeafFails C (Ref strong wanted))
+pub leaf_decides_ref : (C : Context) (strong : Bool) (wanted : Option ℕ)
+    → Decides C.order (IsLeaf C (Ref strong wanted)) (LeafFails C (Ref strong wanted))
 leaf_decides_ref C strong wanted at w =
     counted_decides C.order (IsLeaf C (Ref strong wanted)) (λ q x. leaf_fault C (Ref strong wanted) q ≡ Some x)
     (λ q hw hn. place_inside C.order (IsLeaf C (Ref strong wanted)) (λ p. node.Ref strong wanted p) C.blocks

@@ -35,10 +35,12 @@ Known S C d Line = Unit {0}
 Known S C d (Ref strong wanted) = Unit {0}
 Known S C d Text = Unit {0}
 Known S C zero (Group fields template arg) = Unit {0}
-Known S C (suc d) (Group fields template arg) = EachField (λ f. (E : Env) → KnownForm (Known S C d) (form_of S C template arg E f)) fields
+Known S C (suc d) (Group fields template arg) =
+    EachField (λ f. (E : Env) → KnownForm (Known S C d) (form_of S C template arg E f)) fields
 Known S C d Unknown = ⊥
 
-run_inside : (order : Order) (V : Kind → Node → Type 0) (n : ℕ) (at : Point) → Within at → at.nodes ≤ most_nodes → Enough n at
+run_inside : (order : Order) (V : Kind → Node → Type 0) (n : ℕ) (at : Point) → Within at → at.nodes ≤ most_nodes
+    → Enough n at
     → Inside order (IsForm V (Run n)) (λ q x. shortage n q ≡ Some x) at
 run_inside order V n at w c (inl r) = inr (r.0, r.1)
 run_inside order V n at w c (inr r) =
@@ -78,11 +80,13 @@ group_inside S C V F fields template arg at (inl r) =
     inl (node.Group r.0, r.1, nodes_in r.0, (r.0, refl, r.2), refl, p)
 group_inside S C V F fields template arg at (inr r) = inr r
 
-pub each_field : (P Q : Field → Type 0) → ((f : Field) → P f → Q f) → (fields : List Field) → EachField P fields → EachField Q fields
+pub each_field : (P Q : Field → Type 0) → ((f : Field) → P f → Q f) → (fields : List Field) → EachField P fields
+    → EachField Q fields
 each_field P Q h [] e = tt
 each_field P Q h (f ∷ fields) e = (h f e.0, each_field P Q h fields e.1)
 
-pub shape_decides : (S : Schema) (C : Context) (d : ℕ) (kind : Kind) → Known S C d kind → Decides C.order (Shape S C d kind) (Fails S C d kind)
+pub shape_decides : (S : Schema) (C : Context) (d : ℕ) (kind : Kind) → Known S C d kind
+    → Decides C.order (Shape S C d kind) (Fails S C d kind)
 shape_decides S C d (Number width little) u at w = leaf_decides_number C width little at w
 shape_decides S C d Line u at w = leaf_decides_line C at w
 shape_decides S C d (Ref strong wanted) u at w = leaf_decides_ref C strong wanted at w
@@ -100,8 +104,10 @@ shape_decides S C (suc d) (Group fields template arg) u at w =
     fields each [] q hw hn)) at w
 shape_decides S C d Unknown u at w = absurd u
 
-pub form_shape_decides : (S : Schema) (C : Context) (d : ℕ) (form : Form) → KnownForm (Known S C d) form → Decides C.order (FormShape S C d form) (FormShapeFails S C d form)
-form_shape_decides S C d form known = form_decides C.order (Shape S C d) (Fails S C d) (Known S C d) (λ k uk. shape_decides S C d k uk) form known
+pub form_shape_decides : (S : Schema) (C : Context) (d : ℕ) (form : Form) → KnownForm (Known S C d) form
+    → Decides C.order (FormShape S C d form) (FormShapeFails S C d form)
+form_shape_decides S C d form known =
+    form_decides C.order (Shape S C d) (Fails S C d) (Known S C d) (λ k uk. shape_decides S C d k uk) form known
 
 pub line_decides : {Why : Type 0} (S : Schema) (at : Env → Context) (d : ℕ) (template : Option ℕ) (arg : ℕ) (by_fault : Fault → Why) (check : Check Why) (fields : List Field)
     → EachField (λ f. (E : Env) → KnownForm (Known S (at E) d) (form_of S (at E) template arg E f)) fields

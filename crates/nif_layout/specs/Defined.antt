@@ -32,9 +32,11 @@ HasValue schema earlier formula = (of : Tree) × (formula ≡ Read of)
     × ((C : Context) (E : Env) → fields_before E ≡ earlier → (path : List Name) → Contains (paths_of of) path → IsSome (path_value schema C E path))
 
 abbrev pub HasValues : Schema → List Field → Field → Type 0
-HasValues schema earlier f = (formula : Formula) → Contains (expressions f) (Some formula) → HasValue schema earlier formula
+HasValues schema earlier f =
+    (formula : Formula) → Contains (expressions f) (Some formula) → HasValue schema earlier formula
 
--- Where a `width` is the bare name of an array, all earlier fields of that name are arrays of numbers, of one dimension.
+-- Where a `width` is the bare name of an array, all earlier fields of that name are arrays of numbers, of one
+-- dimension.
 abbrev pub NamesNumbers : Schema → List Field → Field → Type 0
 NamesNumbers schema earlier f = (width : Formula) → width_where f.length f.width ≡ Some width
     → (E : Env) → fields_before E ≡ earlier → (name : Name) → array_name E width ≡ Some name

@@ -16,9 +16,11 @@ abbrev pub Excludes : Order → (Node → Type 0) → (Point → Fault → Type 
 Excludes order V F = (node : Node) (at next : Point) (f : Fault) → V node → Reads order node at next → F at f → ⊥
 
 abbrev pub AllExclude : {Why : Type 0} → (Members → List ℕ) → (Members → Type 0) → (Point → Why → Type 0) → Type 0
-AllExclude {Why} T V F = (a : Members) (at next : Point) (w : Why) → V a → Passes (T a) (nodes_in a) at next → F at w → ⊥
+AllExclude {Why} T V F =
+    (a : Members) (at next : Point) (w : Why) → V a → Passes (T a) (nodes_in a) at next → F at w → ⊥
 
-pub one_order_excludes : (order : Order) (V : Members → Type 0) (F : Point → Fault → Type 0) → AllExclude (member_text order (λ got. texts order)) V F → AllExclude (texts order) V F
+pub one_order_excludes : (order : Order) (V : Members → Type 0) (F : Point → Fault → Type 0)
+    → AllExclude (member_text order (λ got. texts order)) V F → AllExclude (texts order) V F
 one_order_excludes order V F h a at next f ha p bad =
     let P : List ℕ → Type 0 = λ s. Passes s (nodes_in a) at next in h a at next f ha (subst P (sym (in_one_order order a)) p) bad
 
@@ -26,7 +28,8 @@ one_order_excludes order V F h a at next f ha p bad =
 abbrev pub OneFault : {Why : Type 0} → (Point → Why → Type 0) → Type 0
 OneFault {Why} F = (at : Point) (v w : Why) → F at v → F at w → v ≡ w
 
-pub counted_one : {Why : Type 0} (by_fault : Fault → Why) (F : Point → Why → Type 0) → OneFault F → OneFault (Counted by_fault F)
+pub counted_one : {Why : Type 0} (by_fault : Fault → Why) (F : Point → Why → Type 0) → OneFault F
+    → OneFault (Counted by_fault F)
 counted_one by_fault F one at v w (inl a) (inl b) = a.1 ∙ sym b.1
 counted_one by_fault F one at v w (inl a) (inr b) = let x : most_nodes ≤ at.nodes = a.0 in let y : at.nodes < most_nodes = b.0 in absurd (omega arith)
 counted_one by_fault F one at v w (inr a) (inl b) = let x : at.nodes < most_nodes = a.0 in let y : most_nodes ≤ at.nodes = b.0 in absurd (omega arith)
@@ -69,19 +72,23 @@ member_excludes by_fault order T false V F R Q cancels first rest a at next w ha
     counted_excludes by_fault (Q None) (T None ha.0) (nodes_in ha.0) at next w (λ q x. rest None ha.0 (one_more at) next w ha.2 q x) p' bad
 
 pub member_one : {Why : Type 0} (by_fault : Fault → Why) (order : Order) (here : Bool) (V : Node → Type 0) (F : Point → Fault → Type 0) (Q : Option Node → Point → Why → Type 0)
-    → Cancels order V V → Excludes order V F → OneFault F → ((got : Option Node) → OneFault (Q got)) → OneFault (MemberFails by_fault order here V F Q)
+    → Cancels order V V → Excludes order V F → OneFault F → ((got : Option Node) → OneFault (Q got))
+    → OneFault (MemberFails by_fault order here V F Q)
 member_one {Why} by_fault order true V F Q cancels excludes one rest at v w (inl a) (inl b) =
     let same : a.0 ≡ b.0 = one at a.0 b.0 a.2 b.2 in
     let P : Fault → Type 0 = λ f. v ≡ by_fault f in
     let moved : v ≡ by_fault b.0 = subst P same a.1 in
     moved ∙ sym b.1
-member_one by_fault order true V F Q cancels excludes one rest at v w (inl a) (inr b) = absurd (excludes b.0 at b.1 a.0 b.2 b.3 a.2)
-member_one by_fault order true V F Q cancels excludes one rest at v w (inr a) (inl b) = absurd (excludes a.0 at a.1 b.0 a.2 a.3 b.2)
+member_one by_fault order true V F Q cancels excludes one rest at v w (inl a) (inr b) =
+    absurd (excludes b.0 at b.1 a.0 b.2 b.3 a.2)
+member_one by_fault order true V F Q cancels excludes one rest at v w (inr a) (inl b) =
+    absurd (excludes a.0 at a.1 b.0 a.2 a.3 b.2)
 member_one by_fault order true V F Q cancels excludes one rest at v w (inr a) (inr b) =
     let same = same_end order V cancels a.0 b.0 at a.1 b.1 a.2 b.2 a.3 b.3 in
     let P : Node → Point → Type 0 = λ m q. Q (Some m) q v in
     rest (Some b.0) b.1 v w (subst₂ P same.0 same.1 a.4) b.4
-member_one by_fault order false V F Q cancels excludes one rest at v w a b = counted_one by_fault (Q None) (rest None) at v w a b
+member_one by_fault order false V F Q cancels excludes one rest at v w a b =
+    counted_one by_fault (Q None) (rest None) at v w a b
 
 -- What follows a member of a line: it is refused, or the rest fails.
 abbrev pub RefusedOr : {Why : Type 0} → Option Why → (Point → Why → Type 0) → Point → Why → Type 0
@@ -98,14 +105,16 @@ pub refused_excludes : {Why : Type 0} (refused : Option Why) (T : Members → Li
 refused_excludes refused T V F h a at next w ha p (inl bad) = none_some refused w ha.0 bad
 refused_excludes refused T V F h a at next w ha p (inr bad) = h a at next w ha.1 p bad.1
 
-pub refused_one : {Why : Type 0} (refused : Option Why) (F : Point → Why → Type 0) → OneFault F → OneFault (RefusedOr refused F)
+pub refused_one : {Why : Type 0} (refused : Option Why) (F : Point → Why → Type 0) → OneFault F
+    → OneFault (RefusedOr refused F)
 refused_one refused F one at v w (inl a) (inl b) = some_same refused v w a b
 refused_one refused F one at v w (inl a) (inr b) = absurd (none_some refused v b.0 a)
 refused_one refused F one at v w (inr a) (inl b) = absurd (none_some refused w a.0 b)
 refused_one refused F one at v w (inr a) (inr b) = one at v w a.1 b.1
 
 pub fields_exclude : {Why : Type 0} (by_fault : Fault → Why) (order : Env → Order) (here : Env → Field → Bool) (V : Env → Field → Node → Type 0) (F : Env → Field → Point → Fault → Type 0) (check : Check Why)
-    → ((E : Env) (f : Field) → Cancels (order E) (V E f) (V E f)) → ((E : Env) (f : Field) → Excludes (order E) (V E f) (F E f))
+    → ((E : Env) (f : Field) → Cancels (order E) (V E f) (V E f))
+    → ((E : Env) (f : Field) → Excludes (order E) (V E f) (F E f))
     → (fields : List Field) (E : Env) → AllExclude (fields_text order fields E) (Fields here V check fields E) (FieldsFail by_fault order here V F check fields E)
 fields_exclude by_fault order here V F check cancels each [] E a at next w ha p bad = bad
 fields_exclude by_fault order here V F check cancels each (f ∷ fields) E a at next w ha p bad =
@@ -114,7 +123,8 @@ fields_exclude by_fault order here V F check cancels each (f ∷ fields) E a at 
     (fields_exclude by_fault order here V F check cancels each fields (behind f got E))) a at next w ha p bad
 
 pub fields_one : {Why : Type 0} (by_fault : Fault → Why) (order : Env → Order) (here : Env → Field → Bool) (V : Env → Field → Node → Type 0) (F : Env → Field → Point → Fault → Type 0) (check : Check Why)
-    → ((E : Env) (f : Field) → Cancels (order E) (V E f) (V E f)) → ((E : Env) (f : Field) → Excludes (order E) (V E f) (F E f))
+    → ((E : Env) (f : Field) → Cancels (order E) (V E f) (V E f))
+    → ((E : Env) (f : Field) → Excludes (order E) (V E f) (F E f))
     → ((E : Env) (f : Field) → OneFault (F E f))
     → (fields : List Field) (E : Env) → OneFault (FieldsFail by_fault order here V F check fields E)
 fields_one by_fault order here V F check cancels each one [] E at v w a b = absurd a

@@ -36,7 +36,8 @@ is_basic (Basic own) = true
 is_basic _ = false
 
 abbrev pub is_run : Schema → ℕ → Bool
-is_run schema number = option_map_or (λ d. is_basic d.what && list_any (bytes_eq d.name) run_names) (slice_get schema number) false
+is_run schema number =
+    option_map_or (λ d. is_basic d.what && list_any (bytes_eq d.name) run_names) (slice_get schema number) false
 
 -- the node of item i of a row
 abbrev pub item_at : Members → ℕ → Option Node

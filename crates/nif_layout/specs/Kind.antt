@@ -39,10 +39,12 @@ kind_of_leaf C template leaf.Unread = Unknown
 -- A block type has no template, and its argument is 0, also where a template puts it in a field's place.
 abbrev pub kind_of_what : Schema → Context → ℕ → Option ℕ → ℕ → What → Kind
 kind_of_what schema C number template arg (Basic own) = kind_of_leaf C template own
-kind_of_what schema C number template arg (Stored storage members) = kind_of_leaf C None (leaf_of schema (Stored storage members))
+kind_of_what schema C number template arg (Stored storage members) =
+    kind_of_leaf C None (leaf_of schema (Stored storage members))
 kind_of_what schema C number template arg Struct = Group (line schema number) template arg
 kind_of_what schema C number template arg (Block parent is_abstract) = Group (line schema number) None 0
 
 -- what a value of the declaration of this number is, under a template and with an argument
 abbrev pub kind_of : Schema → Context → ℕ → Option ℕ → ℕ → Kind
-kind_of schema C number template arg = option_map_or (kind_of_what schema C number template arg) (what_at schema number) Unknown
+kind_of schema C number template arg =
+    option_map_or (kind_of_what schema C number template arg) (what_at schema number) Unknown

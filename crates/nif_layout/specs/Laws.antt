@@ -33,7 +33,8 @@ IsOpenType schema number = (number < length schema) × IsOpen schema number
 -- A generic type needs a template: an open type that isn't generic.
 abbrev pub HasTemplate : Schema → ℕ → Option ℕ → Type 0
 HasTemplate schema number template =
-    is_generic schema number ≡ true → (inner : ℕ) × (template ≡ Some inner) × IsOpenType schema inner × (is_generic schema inner ≡ false)
+    is_generic schema number ≡ true → (inner : ℕ) × (template ≡ Some inner) × IsOpenType schema inner
+    × (is_generic schema inner ≡ false)
 
 -- ---- same bytes, same node: two values that are spelled by the same bytes are one, whatever their bounds of depth
 
@@ -45,12 +46,14 @@ OneNode schema C number template arg = (c d : ℕ) (a b : Node) (bytes : List �
 
 abbrev pub NoProperPrefix : Schema → Context → ℕ → Option ℕ → ℕ → Type 0
 NoProperPrefix schema C number template arg = (c d : ℕ) (a b : Node) (bytes more : List ℕ)
-    → Spells schema C c number template arg a bytes → Spells schema C d number template arg b (bytes ++ more) → more ≡ []
+    → Spells schema C c number template arg a bytes → Spells schema C d number template arg b (bytes ++ more)
+    → more ≡ []
 
 -- Both at once, of the values of a field and of the members of a line: whatever stands behind them.
 abbrev pub OneForm : Schema → Context → Form → Type 0
 OneForm schema C form = (c d : ℕ) (a b : Node) (x y : List ℕ)
-    → FormShape schema C c form a → FormShape schema C d form b → text C.order a ++ x ≡ text C.order b ++ y → (a ≡ b) × (x ≡ y)
+    → FormShape schema C c form a → FormShape schema C d form b → text C.order a ++ x ≡ text C.order b ++ y → (a ≡ b)
+    × (x ≡ y)
 
 -- the bytes of the members of a line, each in the order of its context
 abbrev pub line_text : (Env → Context) → List Field → Env → Members → List ℕ
@@ -99,7 +102,9 @@ FormSpelledOrFails schema C form = (d n p : ℕ) (bytes : List ℕ) → IsPlace 
     → ExactlyOne (NodeStands C (FormShape schema C d form) bytes p n) (FormShapeFails schema C d form (at_place n bytes p))
 
 -- The same of the members of a line, where there aren't too many nodes before them.
-abbrev pub LineSpelledOrFails : {Why : Type 0} → Schema → (Env → Context) → Option ℕ → ℕ → (Fault → Why) → Check Why → List Field → Type 0
-LineSpelledOrFails schema at template arg by_fault check fields = (d n p : ℕ) (bytes : List ℕ) → IsPlace bytes p → n ≤ most_nodes
+abbrev pub LineSpelledOrFails : {Why : Type 0} → Schema → (Env → Context) → Option ℕ → ℕ → (Fault → Why) → Check Why
+    → List Field → Type 0
+LineSpelledOrFails schema at template arg by_fault check fields =
+    (d n p : ℕ) (bytes : List ℕ) → IsPlace bytes p → n ≤ most_nodes
     → ExactlyOne ((members : Members) × LineShape schema at d template arg check fields [] members × Stands bytes p n (line_text at fields [] members) (nodes_in members))
     (LineFails schema at d template arg by_fault check fields [] (at_place n bytes p))

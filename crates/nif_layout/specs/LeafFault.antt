@@ -52,7 +52,8 @@ range_fault most value fault = if value == 0xFFFFFFFF then None else if nat_lt v
 
 abbrev pub leaf_fault : Context → Kind → Point → Option Fault
 leaf_fault C (Number width little) at = shortage width at
-leaf_fault C Line at = or_else (shortage (line_needs (newline 256 at.left)) at) (line_fault (newline 256 at.left) at.place)
+leaf_fault C Line at =
+    or_else (shortage (line_needs (newline 256 at.left)) at) (line_fault (newline 256 at.left) at.place)
 leaf_fault C (Ref strong wanted) at =
     let value = number_at (is_little C.order) 4 at.left in
     or_else (shortage 4 at) (range_fault C.blocks value (RefRange at.place value))

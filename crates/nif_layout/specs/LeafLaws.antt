@@ -15,7 +15,8 @@ use Rattle.nif_layout.specs.ByteLaws.{number_again}
 use Rattle.nif_layout.specs.RoomLaws.{no_shortage}
 
 -- the place of the first 0x0A after a line
-pub newline_at : (most : ℕ) (line rest : List ℕ) → AreInLine line → length line < most → newline most (line ++ 0x0A ∷ rest) ≡ Some (length line)
+pub newline_at : (most : ℕ) (line rest : List ℕ) → AreInLine line → length line < most
+    → newline most (line ++ 0x0A ∷ rest) ≡ Some (length line)
 unfolding newline
 newline_at zero line rest h l = absurd (omega arith)
 newline_at (suc most) [] rest h l = refl
@@ -24,7 +25,8 @@ newline_at (suc most) (b ∷ line) rest h l =
     let test : eqb b 0x0A ≡ false = ne_eqb b 0x0A h.1 in
     rw (test, newline_at most line rest h.2 len) refl
 
-pub in_range : (most : ℕ) (place : Option ℕ) (fault : Fault) → most < 2 ^ 32 → IsBelow most place → range_fault most (place_or_none place) fault ≡ None
+pub in_range : (most : ℕ) (place : Option ℕ) (fault : Fault) → most < 2 ^ 32 → IsBelow most place
+    → range_fault most (place_or_none place) fault ≡ None
 in_range most None fault h b = refl
 in_range most (Some k) fault h b =
     let below : k < most = b in
@@ -34,7 +36,8 @@ in_range most (Some k) fault h b =
     rw (a, c) refl
 
 -- a number that stands there and is in range has no fault
-pub place_no_fault : (little : Bool) (most : ℕ) (place : Option ℕ) (at next : Point) (n : ℕ) (fault : Fault) → most < 2 ^ 32 → IsBelow most place
+pub place_no_fault : (little : Bool) (most : ℕ) (place : Option ℕ) (at next : Point) (n : ℕ) (fault : Fault)
+    → most < 2 ^ 32 → IsBelow most place
     → Passes (number little 4 (place_or_none place)) n at next
     → or_else (shortage 4 at) (range_fault most (number_at little 4 at.left) fault) ≡ None
 place_no_fault little most place at next n fault h b p =
@@ -42,10 +45,12 @@ place_no_fault little most place at next n fault h b p =
     let len : length s ≡ 4 = length_number little 4 (place_or_none place) in
     let short : shortage 4 at ≡ None = rw len at (no_shortage s n at next p) in
     let v : number_at little 4 at.left ≡ place_or_none place =
-    ap (λ l. number_at little 4 l) p.here ∙ number_again little 4 (place_or_none place) next.left (place_fits most place h b) in
+    ap (λ l. number_at little 4 l) p.here
+    ∙ number_again little 4 (place_or_none place) next.left (place_fits most place h b) in
     ap₂ or_else short (ap (λ x. range_fault most x fault) v ∙ in_range most place fault h b)
 
-pub line_no_fault : (line : List ℕ) (at next : Point) (n : ℕ) → AreInLine line → length line ≤ 255 → Passes (line ++ 0x0A ∷ []) n at next
+pub line_no_fault : (line : List ℕ) (at next : Point) (n : ℕ) → AreInLine line → length line ≤ 255
+    → Passes (line ++ 0x0A ∷ []) n at next
     → or_else (shortage (line_needs (newline 256 at.left)) at) (line_fault (newline 256 at.left) at.place) ≡ None
 line_no_fault line at next n h l p =
     let len : length (line ++ 0x0A ∷ []) ≡ suc (length line) = length-append line (0x0A ∷ []) ∙ add-one (length line) in

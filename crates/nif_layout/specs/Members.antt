@@ -8,7 +8,8 @@ use Rattle.nif_layout.specs.Earlier.{Env, behind}
 
 -- The next member is present and what `Value` says, or it is absent. `Rest` says what follows it.
 abbrev pub Member : Bool → (Node → Type 0) → (Option Node → Members → Type 0) → Members → Type 0
-Member true Value Rest members = (node : Node) × (rest : Members) × (members ≡ Here node rest) × Value node × Rest (Some node) rest
+Member true Value Rest members =
+    (node : Node) × (rest : Members) × (members ≡ Here node rest) × Value node × Rest (Some node) rest
 Member false Value Rest members = (rest : Members) × (members ≡ Absent rest) × Rest None rest
 
 -- Why a member that was read is refused, if it is, behind the fields before it. Only members of the header are checked.
@@ -19,7 +20,8 @@ abbrev pub no_check : {Why : Type 0} → Check Why
 no_check E f got = None
 
 -- One member for each field, absent exactly where the field isn't present behind those before it, and none refused.
-abbrev pub Fields : {Why : Type 0} → (Env → Field → Bool) → (Env → Field → Node → Type 0) → Check Why → List Field → Env → Members → Type 0
+abbrev pub Fields : {Why : Type 0} → (Env → Field → Bool) → (Env → Field → Node → Type 0) → Check Why → List Field
+    → Env → Members → Type 0
 Fields here Value check [] E members = members ≡ End
 Fields here Value check (f ∷ fields) E members =
     Member (here E f) (Value E f) (λ got rest. (check E f got ≡ None) × Fields here Value check fields (behind f got E) rest) members
@@ -39,4 +41,5 @@ member_text order rest_text (Absent rest) = rest_text None rest
 -- isn't known until its field was read.
 abbrev pub fields_text : (Env → Order) → List Field → Env → Members → List ℕ
 fields_text order [] E members = []
-fields_text order (f ∷ fields) E members = member_text (order E) (λ got rest. fields_text order fields (behind f got E) rest) members
+fields_text order (f ∷ fields) E members =
+    member_text (order E) (λ got rest. fields_text order fields (behind f got E) rest) members

@@ -40,7 +40,9 @@ parent_is_block S n p d e h = by d.what refl
     block Struct b = absurd (true≢false (sym b))
     block (Block above abstract) b = refl
 
-    there : (x : Option Declaration) → slice_get S p ≡ x → option_map_or (λ (d : Declaration). is_block d.what) x false ≡ true → (up : Declaration) × (slice_get S p ≡ Some up) × (is_struct up.what ≡ false)
+    there : (x : Option Declaration) → slice_get S p ≡ x
+        → option_map_or (λ (d : Declaration). is_block d.what) x false ≡ true
+        → (up : Declaration) × (slice_get S p ≡ Some up) × (is_struct up.what ≡ false)
     there None ex b = absurd (true≢false (sym b))
     there (Some up) ex b = (up, ex, block up.what b)
 
@@ -48,11 +50,13 @@ parent_is_block S n p d e h = by d.what refl
     found true m eb q = let same : m ≡ p = cc in subst (λ (k : ℕ). has_block S k ≡ true) same eb
     found false m eb q = absurd (cc)
 
-    named : (o : Option ℕ) → option_and_then (λ number. if has_block S number then Some number else None) o ≡ Some p → has_block S p ≡ true
+    named : (o : Option ℕ) → option_and_then (λ number. if has_block S number then Some number else None) o ≡ Some p
+        → has_block S p ≡ true
     named None q = absurd (cc)
     named (Some m) q = found (has_block S m) m refl q
 
-    by : (w : What) → d.what ≡ w → (is_struct d.what ≡ false) × ((up : Declaration) × (slice_get S p ≡ Some up) × (is_struct up.what ≡ false))
+    by : (w : What) → d.what ≡ w
+        → (is_struct d.what ≡ false) × ((up : Declaration) × (slice_get S p ≡ Some up) × (is_struct up.what ≡ false))
     by (Basic own) ew = let q : option_and_then (find_block S) (inherited (Basic own)) ≡ Some p = subst (λ (w : What). option_and_then (find_block S) (inherited w) ≡ Some p) ew at in absurd (cc)
     by (Stored storage members) ew = let q : option_and_then (find_block S) (inherited (Stored storage members)) ≡ Some p = subst (λ (w : What). option_and_then (find_block S) (inherited w) ≡ Some p) ew at in absurd (cc)
     by Struct ew = let q : option_and_then (find_block S) (inherited Struct) ≡ Some p = subst (λ (w : What). option_and_then (find_block S) (inherited w) ≡ Some p) ew at in absurd (cc)
@@ -69,7 +73,8 @@ uses_parent S n p e =
 
 -- a field of the line of an open type, which needs a template only where the type is generic
 abbrev LineGood : Schema → ℕ → Bool → Field → Type 0
-LineGood S n in_struct f = FieldGood S in_struct f × (in_struct ≡ true → takes_template f ≡ true → is_generic S n ≡ true)
+LineGood S n in_struct f =
+    FieldGood S in_struct f × (in_struct ≡ true → takes_template f ≡ true → is_generic S n ≡ true)
 
 generic_by_field : (S : Schema) (n : ℕ) (d : Declaration) → slice_get S n ≡ Some d
     → EachField (λ f. is_struct d.what ≡ true → takes_template f ≡ true → is_generic S n ≡ true) d.fields
@@ -79,7 +84,8 @@ generic_by_field S n d e =
     let Q : Bool → Type 0 = λ b. (b && list_any takes_template d.fields) ≡ true in
     subst P (sym e) (subst Q (sym s) (h t))) d.fields (each_any takes_template d.fields)
 
-line_good : (S : Schema) (most n : ℕ) (d : Declaration) → slice_get S n ≡ Some d → IsOpen S n → EachField (LineGood S n (is_struct d.what)) (line_within most S n)
+line_good : (S : Schema) (most n : ℕ) (d : Declaration) → slice_get S n ≡ Some d → IsOpen S n
+    → EachField (LineGood S n (is_struct d.what)) (line_within most S n)
 line_good S zero n d e o = tt
 line_good S (suc most) n d e o = by (parent S n) refl (λ p up ep op. line_good S most p up ep op)
   where
@@ -117,20 +123,27 @@ abbrev Hole : Schema → Option ℕ → Type 0
 Hole S template = (inner : ℕ) × (template ≡ Some inner) × IsOpenType S inner × (is_generic S inner ≡ false)
 
 abbrev Knowns : Schema → Context → ℕ → Type 0
-Knowns S C d = (n : ℕ) (template : Option ℕ) (arg : ℕ) → IsOpenType S n → HasTemplate S n template → Known S C d (kind_of S C n template arg)
+Knowns S C d =
+    (n : ℕ) (template : Option ℕ) (arg : ℕ) → IsOpenType S n → HasTemplate S n template
+    → Known S C d (kind_of S C n template arg)
 
-replaced_own : (S : Schema) (template : Option ℕ) (name : Name) (b : Bool) → is_own_template name ≡ b → replaced S template name ≡ (if b then template else find S name)
+replaced_own : (S : Schema) (template : Option ℕ) (name : Name) (b : Bool) → is_own_template name ≡ b
+    → replaced S template name ≡ (if b then template else find S name)
 replaced_own S template name b e = ap (λ (b : Bool). if b then template else find S name) e
 
 template_known : (S : Schema) (in_struct : Bool) (template : Option ℕ) (t : Option Name) → TemplateGood S in_struct t
-    → (in_struct ≡ true → option_map_or is_own_template t false ≡ true → Hole S template) → Hole S (option_and_then (replaced S template) t)
+    → (in_struct ≡ true → option_map_or is_own_template t false ≡ true → Hole S template)
+    → Hole S (option_and_then (replaced S template) t)
 template_known S in_struct template None h hole = absurd h
 template_known S in_struct template (Some name) (inl a) hole =
     let x = hole a.0 a.1 in
     (x.0, replaced_own S template name true a.1 ∙ x.1, x.2, x.3)
-template_known S in_struct template (Some name) (inr a) hole = (a.0, replaced_own S template name false a.1 ∙ a.2, a.3, a.4)
+template_known S in_struct template (Some name) (inr a) hole =
+    (a.0, replaced_own S template name false a.1 ∙ a.2, a.3, a.4)
 
-field_known : (S : Schema) (C : Context) (d : ℕ) (in_struct : Bool) (template : Option ℕ) (arg : ℕ) (E : Env) (f : Field) → Knowns S C d → FieldGood S in_struct f
+field_known : (S : Schema) (C : Context) (d : ℕ) (in_struct : Bool) (template : Option ℕ) (arg : ℕ) (E : Env)
+    (f : Field)
+    → Knowns S C d → FieldGood S in_struct f
     → (in_struct ≡ true → takes_template f ≡ true → Hole S template) → Known S C d (field_kind S C template arg E f)
 unfolding takes_template
 field_known S C d in_struct template arg E f ih good hole = by good
@@ -151,7 +164,8 @@ field_known S C d in_struct template arg E f ih good hole = by good
         subst P (sym e) (ih a.0 inner (option_map_or (formula_value S C E arg) f.arg 0) a.3 (λ g. template_known S in_struct template f.template (a.4 g)
         (λ s t. hole s (or_right (is_own_template f.kind) (option_map_or is_own_template f.template false) t))))
 
-form_known : (S : Schema) (C : Context) (d : ℕ) (count : Option ℕ) (width : Option (ℕ → ℕ)) (run : Bool) (kind : Kind) → Known S C d kind → KnownForm (Known S C d) (sized count width run kind)
+form_known : (S : Schema) (C : Context) (d : ℕ) (count : Option ℕ) (width : Option (ℕ → ℕ)) (run : Bool) (kind : Kind)
+    → Known S C d kind → KnownForm (Known S C d) (sized count width run kind)
 form_known S C d None width run kind u = u
 form_known S C d (Some n) None run kind u = row run n
   where
@@ -165,7 +179,8 @@ form_known S C d (Some n) (Some width) run kind u = λ i. row run (width i)
     row false n = λ i. u
 
 -- the fields of the line of an open type, each in a context of its own
-pub line_known : (S : Schema) (at : Env → Context) (d n : ℕ) (template : Option ℕ) (arg : ℕ) → ((E : Env) → Knowns S (at E) d) → IsOpenType S n → HasTemplate S n template
+pub line_known : (S : Schema) (at : Env → Context) (d n : ℕ) (template : Option ℕ) (arg : ℕ)
+    → ((E : Env) → Knowns S (at E) d) → IsOpenType S n → HasTemplate S n template
     → EachField (λ f. (E : Env) → KnownForm (Known S (at E) d) (form_of S (at E) template arg E f)) (line S n)
 line_known S at d n template arg ih o t =
     let x = declared S n o.0 in
@@ -175,7 +190,8 @@ line_known S at d n template arg ih o t =
     (line S n) (line_good S (length S) n x.0 x.1 o.1)
 
 -- A block type has no template and asks for none.
-block_known : (S : Schema) (at : Env → Context) (d n : ℕ) (x : Declaration) → slice_get S n ≡ Some x → is_struct x.what ≡ false → ((E : Env) → Knowns S (at E) d) → IsOpen S n
+block_known : (S : Schema) (at : Env → Context) (d n : ℕ) (x : Declaration) → slice_get S n ≡ Some x
+    → is_struct x.what ≡ false → ((E : Env) → Knowns S (at E) d) → IsOpen S n
     → EachField (λ f. (E : Env) → KnownForm (Known S (at E) d) (form_of S (at E) None 0 E f)) (line S n)
 block_known S at d n x e s ih o =
     each_map (λ f h E. form_known S (at E) d (option_map (formula_value S (at E) E 0) f.length) (option_map (width_at S (at E) E 0) f.width)
@@ -185,7 +201,8 @@ block_known S at d n x e s ih o =
 
 -- ---- types
 
-leaf_known : (S : Schema) (C : Context) (d : ℕ) (template : Option ℕ) (own : Leaf) → is_unread S (Basic own) ≡ false → Known S C d (kind_of_leaf C template own)
+leaf_known : (S : Schema) (C : Context) (d : ℕ) (template : Option ℕ) (own : Leaf) → is_unread S (Basic own) ≡ false
+    → Known S C d (kind_of_leaf C template own)
 leaf_known S C d template (leaf.Num width signed little float) h = tt
 leaf_known S C d template leaf.Bool h = tt
 leaf_known S C d template leaf.Line h = tt
@@ -194,7 +211,8 @@ leaf_known S C d template leaf.Ptr h = tt
 leaf_known S C d template leaf.Text h = tt
 leaf_known S C d template leaf.Unread h = absurd (true≢false h)
 
-integer_known : (S : Schema) (C : Context) (d : ℕ) (what : Option What) → is_none (option_and_then integer_width what) ≡ false
+integer_known : (S : Schema) (C : Context) (d : ℕ) (what : Option What)
+    → is_none (option_and_then integer_width what) ≡ false
     → Known S C d (kind_of_leaf C None (option_map_or basic_leaf what leaf.Unread))
 integer_known S C d None h = absurd (true≢false h)
 integer_known S C d (Some (Basic (leaf.Num width signed little float))) h = tt
@@ -214,15 +232,18 @@ unfolding storage_width
 stored_known S C d storage h = integer_known S C d (option_and_then (what_at S) (option_and_then (find S) storage)) h
 
 what_known : (S : Schema) (C : Context) (d n : ℕ) (template : Option ℕ) (arg : ℕ) (w : What) → is_unread S w ≡ false
-    → (is_struct w ≡ true → Known S C d (Group (line S n) template arg)) → (is_struct w ≡ false → Known S C d (Group (line S n) None 0))
+    → (is_struct w ≡ true → Known S C d (Group (line S n) template arg))
+    → (is_struct w ≡ false → Known S C d (Group (line S n) None 0))
     → Known S C d (kind_of_what S C n template arg w)
 what_known S C d n template arg (Basic own) h a b = leaf_known S C d template own h
 what_known S C d n template arg (Stored storage members) h a b = stored_known S C d storage h
 what_known S C d n template arg Struct h a b = a refl
 what_known S C d n template arg (Block above abstract) h a b = b refl
 
-type_known : (S : Schema) (C : Context) (d n : ℕ) (template : Option ℕ) (arg : ℕ) (x : Declaration) → slice_get S n ≡ Some x → IsOpen S n
-    → (is_struct x.what ≡ true → Known S C d (Group (line S n) template arg)) → (is_struct x.what ≡ false → Known S C d (Group (line S n) None 0))
+type_known : (S : Schema) (C : Context) (d n : ℕ) (template : Option ℕ) (arg : ℕ) (x : Declaration)
+    → slice_get S n ≡ Some x → IsOpen S n
+    → (is_struct x.what ≡ true → Known S C d (Group (line S n) template arg))
+    → (is_struct x.what ≡ false → Known S C d (Group (line S n) None 0))
     → Known S C d (kind_of S C n template arg)
 type_known S C d n template arg x e o a b =
     let facts = own_facts S n x e (o n (Here n)) in
@@ -240,12 +261,14 @@ open_known S C (suc d) n template arg o t =
     type_known S C (suc d) n template arg x.0 x.1 o.1 (λ s. line_known S (λ E. C) d n template arg ih o t) (λ s. block_known S (λ E. C) d n x.0 x.1 s ih o.1)
 
 -- the members of the line of an open type
-pub open_line_known : (S : Schema) (at : Env → Context) (d n : ℕ) (template : Option ℕ) (arg : ℕ) → IsOpenType S n → HasTemplate S n template
+pub open_line_known : (S : Schema) (at : Env → Context) (d n : ℕ) (template : Option ℕ) (arg : ℕ) → IsOpenType S n
+    → HasTemplate S n template
     → EachField (λ f. (E : Env) → KnownForm (Known S (at E) d) (form_of S (at E) template arg E f)) (line S n)
 open_line_known S at d n template arg o t = line_known S at d n template arg (λ E. open_known S (at E) d) o t
 
 -- one field of a list
-pub each_contained : (P : Field → Type 0) (fields : List Field) (f : Field) → Contains fields f → EachField P fields → P f
+pub each_contained : (P : Field → Type 0) (fields : List Field) (f : Field) → Contains fields f → EachField P fields
+    → P f
 each_contained P [] f c e = let l : c.0 < 0 = c.1 in absurd (omega arith)
 each_contained P (g ∷ fields) f c e = by c.0 c.1 c.2 (λ c. each_contained P fields f c e.1)
   where

@@ -16,11 +16,13 @@ use Rattle.nif_layout.specs.DecideLaws.{EachField}
 
 -- ---- lists of fields
 
-pub each_map : {P Q : Field → Type 0} → ((f : Field) → P f → Q f) → (fields : List Field) → EachField P fields → EachField Q fields
+pub each_map : {P Q : Field → Type 0} → ((f : Field) → P f → Q f) → (fields : List Field) → EachField P fields
+    → EachField Q fields
 each_map h [] e = tt
 each_map h (f ∷ fields) e = (h f e.0, each_map h fields e.1)
 
-pub each_both : (P Q : Field → Type 0) (fields : List Field) → EachField P fields → EachField Q fields → EachField (λ f. P f × Q f) fields
+pub each_both : (P Q : Field → Type 0) (fields : List Field) → EachField P fields → EachField Q fields
+    → EachField (λ f. P f × Q f) fields
 each_both P Q [] e d = tt
 each_both P Q (f ∷ fields) e d = ((e.0, d.0), each_both P Q fields e.1 d.1)
 
@@ -29,7 +31,8 @@ each_append P [] b x y = y
 each_append P (f ∷ a) b x y = (x.0, each_append P a b x.1 y)
 
 -- what a field uses is used
-each_used : (S : Schema) (fields : List Field) → EachField (λ f. (m : ℕ) → Contains (uses_of_field S f) m → Contains (flat_map (uses_of_field S) fields) m) fields
+each_used : (S : Schema) (fields : List Field)
+    → EachField (λ f. (m : ℕ) → Contains (uses_of_field S f) m → Contains (flat_map (uses_of_field S) fields) m) fields
 each_used S [] = tt
 each_used S (f ∷ fields) = (
   λ m c. Contains-append_left (uses_of_field S f) (flat_map (uses_of_field S) fields) m c,
@@ -45,19 +48,22 @@ or_left true b e = refl
 or_left false b e = absurd (true≢false (sym e))
 
 -- a field that passes a test is one of those that some field passes
-pub each_any : (test : Field → Bool) (fields : List Field) → EachField (λ f. test f ≡ true → list_any test fields ≡ true) fields
+pub each_any : (test : Field → Bool) (fields : List Field)
+    → EachField (λ f. test f ≡ true → list_any test fields ≡ true) fields
 each_any test [] = tt
 each_any test (f ∷ fields) =
     (λ e. or_left (test f) (list_any test fields) e, each_map (λ g h e. or_right (test f) (list_any test fields) (h e)) fields (each_any test fields))
 
 -- ---- reasons
 
-pub no_first : (o : Option Closed) (rest : List (Option Closed)) → first_reason (o ∷ rest) ≡ None → (o ≡ None) × (first_reason rest ≡ None)
+pub no_first : (o : Option Closed) (rest : List (Option Closed)) → first_reason (o ∷ rest) ≡ None
+    → (o ≡ None) × (first_reason rest ≡ None)
 no_first None rest e = (refl, e)
 no_first (Some reason) rest e = absurd (cc)
 
 -- where no reason applies, that at a place doesn't
-pub no_reason_at : (reasons : List (Option Closed)) (k : ℕ) (o : Option Closed) → first_reason reasons ≡ None → slice_get reasons k ≡ Some o → o ≡ None
+pub no_reason_at : (reasons : List (Option Closed)) (k : ℕ) (o : Option Closed) → first_reason reasons ≡ None
+    → slice_get reasons k ≡ Some o → o ≡ None
 no_reason_at [] k o e at = absurd (cc)
 no_reason_at (r ∷ reasons) zero o e at = let same : r ≡ o = cc in sym same ∙ (no_first r reasons e).0
 no_reason_at (r ∷ reasons) (suc k) o e at = no_reason_at reasons k o (no_first r reasons e).1 at
@@ -94,7 +100,8 @@ parent_within S n p e = by (option_and_then (λ (d : Declaration). inherited d.w
     block true m e = cc
     block false m e = absurd (cc)
 
-    found : (name : Name) (o : Option ℕ) → find S name ≡ o → option_and_then (λ number. if has_block S number then Some number else None) o ≡ Some p → p < length S
+    found : (name : Name) (o : Option ℕ) → find S name ≡ o
+        → option_and_then (λ number. if has_block S number then Some number else None) o ≡ Some p → p < length S
     found name None eo e = absurd (cc)
     found name (Some m) eo e = subst (λ (k : ℕ). k < length S) (block (has_block S m) m e) (find_within S name m eo)
 
@@ -102,25 +109,31 @@ parent_within S n p e = by (option_and_then (λ (d : Declaration). inherited d.w
     by None e = absurd (cc)
     by (Some name) e = found name (find S name) refl e
 
-named_cases : (S : Schema) (name : Name) (b : Bool) (n : ℕ) → is_own_template name ≡ b → (if b then None else find S name) ≡ Some n → (b ≡ false) × (find S name ≡ Some n)
+named_cases : (S : Schema) (name : Name) (b : Bool) (n : ℕ) → is_own_template name ≡ b
+    → (if b then None else find S name) ≡ Some n → (b ≡ false) × (find S name ≡ Some n)
 named_cases S name true n e h = absurd (cc)
 named_cases S name false n e h = (refl, h)
 
-pub named_found : (S : Schema) (name : Name) (n : ℕ) → named S name ≡ Some n → (is_own_template name ≡ false) × (find S name ≡ Some n)
+pub named_found : (S : Schema) (name : Name) (n : ℕ) → named S name ≡ Some n
+    → (is_own_template name ≡ false) × (find S name ≡ Some n)
 unfolding named
 named_found S name n h = let r = named_cases S name (is_own_template name) n refl h in (r.0, r.1)
 
-accepted : (accepts : ℕ → Bool) (o : Option ℕ) → option_map_or accepts o false ≡ true → (n : ℕ) × (o ≡ Some n) × (accepts n ≡ true)
+accepted : (accepts : ℕ → Bool) (o : Option ℕ) → option_map_or accepts o false ≡ true
+    → (n : ℕ) × (o ≡ Some n) × (accepts n ≡ true)
 accepted accepts None e = absurd (true≢false (sym e))
 accepted accepts (Some n) e = (n, refl, e)
 
 -- a name is `#T#` in a struct, or that of a declaration that is accepted
-type_named : (S : Schema) (in_struct : Bool) (accepts : ℕ → Bool) (name : Name) → names_type S in_struct accepts name ≡ true
+type_named : (S : Schema) (in_struct : Bool) (accepts : ℕ → Bool) (name : Name)
+    → names_type S in_struct accepts name ≡ true
     → ((in_struct ≡ true) × (is_own_template name ≡ true)) ⊎ ((n : ℕ) × (named S name ≡ Some n) × (accepts n ≡ true))
-type_named S in_struct accepts name e = by (or_cases (in_struct && is_own_template name) (option_map_or accepts (named S name) false) e)
+type_named S in_struct accepts name e =
+    by (or_cases (in_struct && is_own_template name) (option_map_or accepts (named S name) false) e)
   where
     by : ((in_struct && is_own_template name) ≡ true) ⊎ (option_map_or accepts (named S name) false ≡ true)
-        → ((in_struct ≡ true) × (is_own_template name ≡ true)) ⊎ ((n : ℕ) × (named S name ≡ Some n) × (accepts n ≡ true))
+        → ((in_struct ≡ true) × (is_own_template name ≡ true))
+        ⊎ ((n : ℕ) × (named S name ≡ Some n) × (accepts n ≡ true))
     by (inl a) = inl (and_both in_struct (is_own_template name) a)
     by (inr a) = inr (accepted accepts (named S name) a)
 
@@ -168,14 +181,16 @@ record FieldFacts (S : Schema) (in_struct : Bool) (f : Field) : Type 0 where
   kind : kind_reason S in_struct f ≡ None
   template : template_reason S in_struct f ≡ None
 
-field_facts : (S : Schema) (in_struct : Bool) (earlier : List Field) (f : Field) → field_reason S in_struct earlier f ≡ None → FieldFacts S in_struct f
+field_facts : (S : Schema) (in_struct : Bool) (earlier : List Field) (f : Field)
+    → field_reason S in_struct earlier f ≡ None → FieldFacts S in_struct f
 unfolding field_reason
 field_facts S in_struct earlier f e =
     let r1 = no_first (kind_reason S in_struct f) _ e in
     let r2 = no_first (template_reason S in_struct f) _ r1.1 in
     record { kind = r1.0; template = r2.0 }
 
-each_facts : (S : Schema) (in_struct : Bool) (earlier fields : List Field) → fields_reason S in_struct earlier fields ≡ None → EachField (FieldFacts S in_struct) fields
+each_facts : (S : Schema) (in_struct : Bool) (earlier fields : List Field)
+    → fields_reason S in_struct earlier fields ≡ None → EachField (FieldFacts S in_struct) fields
 each_facts S in_struct earlier [] e = tt
 each_facts S in_struct earlier (f ∷ fields) e =
     let r1 = no_first (field_reason S in_struct earlier f) _ e in
@@ -186,12 +201,15 @@ each_facts S in_struct earlier (f ∷ fields) e =
 pub open_used : (S : Schema) (n m : ℕ) → IsOpen S n → Contains (uses S n) m → IsOpen S m
 open_used S n m o c to walk = o to (Further n m to c walk)
 
-open_by_name : (S : Schema) (n m : ℕ) (name : Name) → IsOpen S n → named S name ≡ Some m → Contains (uses S n) m → (is_own_template name ≡ false) × (find S name ≡ Some m) × IsOpenType S m
+open_by_name : (S : Schema) (n m : ℕ) (name : Name) → IsOpen S n → named S name ≡ Some m → Contains (uses S n) m
+    → (is_own_template name ≡ false) × (find S name ≡ Some m) × IsOpenType S m
 open_by_name S n m name o e c = let r = named_found S name m e in (r.0, r.1, (find_within S name m r.1, open_used S n m o c))
 
 -- the template of a field whose type is generic
-template_good : (S : Schema) (in_struct : Bool) (n : ℕ) (f : Field) (kind : ℕ) → IsOpen S n → named S f.kind ≡ Some kind → is_generic S kind ≡ true
-    → template_reason S in_struct f ≡ None → ((m : ℕ) → Contains (uses_of_field S f) m → Contains (uses S n) m) → TemplateGood S in_struct f.template
+template_good : (S : Schema) (in_struct : Bool) (n : ℕ) (f : Field) (kind : ℕ) → IsOpen S n
+    → named S f.kind ≡ Some kind → is_generic S kind ≡ true
+    → template_reason S in_struct f ≡ None → ((m : ℕ) → Contains (uses_of_field S f) m → Contains (uses S n) m)
+    → TemplateGood S in_struct f.template
 template_good S in_struct n f kind o e g reason used = by f.template refl needed
   where
     needed : generic_template_reason S in_struct f.template ≡ None
@@ -208,9 +226,12 @@ template_good S in_struct n f kind o e g reason used = by f.template refl needed
 
     by : (t : Option Name) → f.template ≡ t → generic_template_reason S in_struct t ≡ None → TemplateGood S in_struct t
     by None et h = absurd (cc)
-    by (Some name) et h = pick (type_named S in_struct (λ number. not (is_generic S number)) name (not_false _ (no_reason closed.C8 _ h)))
+    by (Some name) et h =
+        pick (type_named S in_struct (λ number. not (is_generic S number)) name (not_false _ (no_reason closed.C8 _ h)))
       where
-        pick : ((in_struct ≡ true) × (is_own_template name ≡ true)) ⊎ ((m : ℕ) × (named S name ≡ Some m) × (not (is_generic S m) ≡ true)) → TemplateGood S in_struct (Some name)
+        pick : ((in_struct ≡ true) × (is_own_template name ≡ true)) ⊎
+            ((m : ℕ) × (named S name ≡ Some m) × (not (is_generic S m) ≡ true))
+            → TemplateGood S in_struct (Some name)
         pick (inl a) = inl a
         pick (inr a) =
             let in_template : named_template S f ≡ Some a.0 = ap (option_and_then (named S)) et ∙ a.1 in
@@ -222,11 +243,14 @@ template_good S in_struct n f kind o e g reason used = by f.template refl needed
             let r = open_by_name S n a.0 name o a.1 (used a.0 c) in
             inr (a.0, r.0, r.1, r.2, not_true (is_generic S a.0) a.2)
 
-field_good : (S : Schema) (in_struct : Bool) (n : ℕ) (f : Field) → IsOpen S n → FieldFacts S in_struct f → ((m : ℕ) → Contains (uses_of_field S f) m → Contains (uses S n) m) → FieldGood S in_struct f
+field_good : (S : Schema) (in_struct : Bool) (n : ℕ) (f : Field) → IsOpen S n → FieldFacts S in_struct f
+    → ((m : ℕ) → Contains (uses_of_field S f) m → Contains (uses S n) m) → FieldGood S in_struct f
 field_good S in_struct n f o facts used =
     by (type_named S in_struct (λ number. not (has_block S number)) f.kind (not_false _ (no_reason closed.C1 _ facts.kind)))
   where
-    by : ((in_struct ≡ true) × (is_own_template f.kind ≡ true)) ⊎ ((m : ℕ) × (named S f.kind ≡ Some m) × (not (has_block S m) ≡ true)) → FieldGood S in_struct f
+    by : ((in_struct ≡ true) × (is_own_template f.kind ≡ true)) ⊎
+        ((m : ℕ) × (named S f.kind ≡ Some m) × (not (has_block S m) ≡ true))
+        → FieldGood S in_struct f
     by (inl a) = inl a
     by (inr a) =
         let P : Option ℕ → Type 0 = λ x. Contains (option_map_or (λ kind. option_to_list (Some kind) ++ (if is_generic S kind then option_to_list (named_template S f) else [])) x []) a.0 in
@@ -242,7 +266,8 @@ declared (d ∷ ds) zero l = (d, refl)
 declared (d ∷ ds) (suc n) l = declared ds n (omega arith)
 
 -- the own fields of an open type
-pub fields_good : (S : Schema) (n : ℕ) (d : Declaration) → slice_get S n ≡ Some d → IsOpen S n → EachField (FieldGood S (is_struct d.what)) d.fields
+pub fields_good : (S : Schema) (n : ℕ) (d : Declaration) → slice_get S n ≡ Some d → IsOpen S n
+    → EachField (FieldGood S (is_struct d.what)) d.fields
 unfolding uses
 fields_good S n d e o =
     let facts = own_facts S n d e (o n (Here n)) in

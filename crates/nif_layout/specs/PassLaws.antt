@@ -19,7 +19,8 @@ split s t m n at next p =
       record { here = refl; place = omega arith; nodes = omega arith; within = w; counted = c },
     )
 
-pub join : (s t : List ℕ) (m n : ℕ) (at mid next : Point) → Passes s m at mid → Passes t n mid next → Passes (s ++ t) (m + n) at next
+pub join : (s t : List ℕ) (m n : ℕ) (at mid next : Point) → Passes s m at mid → Passes t n mid next
+    → Passes (s ++ t) (m + n) at next
 join s t m n at mid next p q =
     let len : length (s ++ t) ≡ length s + length t = length-append s t in
     let pp : mid.place ≡ at.place + length s = p.place in
@@ -35,7 +36,8 @@ join s t m n at mid next p q =
     }
 
 -- The first of the nodes can be counted before the bytes.
-pub count_in : (s : List ℕ) (n : ℕ) (at next : Point) → Passes s (1 + n) at next → (at.nodes < most_nodes) × Passes s n (one_more at) next
+pub count_in : (s : List ℕ) (n : ℕ) (at next : Point) → Passes s (1 + n) at next
+    → (at.nodes < most_nodes) × Passes s n (one_more at) next
 count_in s n at next p =
     let pn : next.nodes ≡ at.nodes + (1 + n) = p.nodes in
     let c : next.nodes ≤ most_nodes = p.counted in

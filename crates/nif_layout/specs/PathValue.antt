@@ -24,7 +24,8 @@ basic_leaf _ = leaf.Unread
 -- A stored type is spelled as the basic that is its storage.
 abbrev pub leaf_of : Schema → What → Leaf
 leaf_of schema (Basic own) = own
-leaf_of schema (Stored storage members) = option_map_or basic_leaf (option_and_then (what_at schema) (option_and_then (find schema) storage)) leaf.Unread
+leaf_of schema (Stored storage members) =
+    option_map_or basic_leaf (option_and_then (what_at schema) (option_and_then (find schema) storage)) leaf.Unread
 leaf_of schema _ = leaf.Unread
 
 abbrev pub is_signed_leaf : Leaf → Bool

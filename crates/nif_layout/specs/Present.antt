@@ -45,7 +45,8 @@ is_exactly number (Some exact.Bad) = false
 
 -- there is an owner, and it is the block type of this name or inherits from it
 abbrev pub is_owned_by : Schema → Option ℕ → Name → Bool
-is_owned_by schema owner name = option_map_or (λ number. option_map_or (is_a schema number) (find schema name) false) owner false
+is_owned_by schema owner name =
+    option_map_or (λ number. option_map_or (is_a schema number) (find schema name) false) owner false
 
 -- a field of a line is present behind these earlier fields, in a group with this argument
 abbrev pub present : Schema → Context → ℕ → Env → Field → Bool

@@ -19,9 +19,12 @@ no_shortage s n at next p =
 
 -- A shortage, or enough bytes.
 abbrev pub Enough : ℕ → Point → Type 0
-Enough k at = ((f : Fault) × (shortage k at ≡ Some f)) ⊎ ((shortage k at ≡ None) × (k ≤ length at.left) × (at.place + k ≤ most_file_bytes))
+Enough k at =
+    ((f : Fault) × (shortage k at ≡ Some f))
+    ⊎ ((shortage k at ≡ None) × (k ≤ length at.left) × (at.place + k ≤ most_file_bytes))
 
-pub enough_by : (k : ℕ) (at : Point) (a b c : Bool) → ltb most_file_bytes (at.place + k) ≡ a → ltb most_file_bytes (at.place + length at.left) ≡ b
+pub enough_by : (k : ℕ) (at : Point) (a b c : Bool) → ltb most_file_bytes (at.place + k) ≡ a
+    → ltb most_file_bytes (at.place + length at.left) ≡ b
     → ltb (length at.left) k ≡ c → Enough k at
 enough_by k at true true c ea eb ec = inl (TooLong, rw (ea, eb) refl)
 enough_by k at true false true ea eb ec = inl (Ended at.place, rw (ea, eb, ec) refl)
@@ -40,7 +43,8 @@ enough k at = enough_by k at (ltb most_file_bytes (at.place + k)) (ltb most_file
 abbrev pub skip : ℕ → Point → Point
 skip k at = record { nodes = at.nodes; place = at.place + k; left = drop k at.left }
 
-pub passes_skip : (k : ℕ) (at : Point) (s : List ℕ) → s ≡ take k at.left → k ≤ length at.left → at.place + k ≤ most_file_bytes → at.nodes ≤ most_nodes
+pub passes_skip : (k : ℕ) (at : Point) (s : List ℕ) → s ≡ take k at.left → k ≤ length at.left
+    → at.place + k ≤ most_file_bytes → at.nodes ≤ most_nodes
     → Passes s 0 at (skip k at)
 passes_skip k at s e l w n =
     let len : length (take k at.left) ≡ k = length-take-le k at.left l in

@@ -18,7 +18,8 @@ use Rattle.nif_layout.specs.Members.{Check, no_check, Fields, Items}
 abbrev pub IsForm : (Kind → Node → Type 0) → Form → Node → Type 0
 IsForm Single (One kind) at = Single kind at
 IsForm Single (Run n) at = (bytes : List ℕ) × (at ≡ node.Bytes bytes) × (length bytes ≡ n) × AreBytes bytes
-IsForm Single (Row n item) at = (items : Members) × (at ≡ node.Row items) × Items (λ i. IsForm Single (item i)) 0 n items
+IsForm Single (Row n item) at =
+    (items : Members) × (at ≡ node.Row items) × Items (λ i. IsForm Single (item i)) 0 n items
 
 -- The members of a group by the fields of a line.
 abbrev pub IsGroup : Schema → Context → (Kind → Node → Type 0) → List Field → Option ℕ → ℕ → Node → Type 0
@@ -41,7 +42,8 @@ abbrev pub FormShape : Schema → Context → ℕ → Form → Node → Type 0
 FormShape schema C d form at = IsForm (Shape schema C d) form at
 
 -- The members of a line, each in the context that holds for it behind those before it, and none refused.
-abbrev pub LineShape : {Why : Type 0} → Schema → (Env → Context) → ℕ → Option ℕ → ℕ → Check Why → List Field → Env → Members → Type 0
+abbrev pub LineShape : {Why : Type 0} → Schema → (Env → Context) → ℕ → Option ℕ → ℕ → Check Why → List Field → Env
+    → Members → Type 0
 LineShape schema at d template arg check fields E members =
     Fields (λ E f. present schema (at E) arg E f) (λ E f. FormShape schema (at E) d (form_of schema (at E) template arg E f)) check fields E members
 

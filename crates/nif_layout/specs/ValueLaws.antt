@@ -22,11 +22,13 @@ use Rattle.nif_layout.specs.DecideLaws.{Within, Decides, Decided, AllDecide, All
 use Rattle.nif_layout.specs.DecideShapeLaws.{KnownForm, Known, shape_decides, form_shape_decides, line_decides}
 use Rattle.nif_layout.specs.OpenKindLaws.{open_known, open_line_known, each_contained}
 
-pub one_node : (S : Schema) (C : Context) (number : ℕ) (template : Option ℕ) (arg : ℕ) → Fits C → OneNode S C number template arg
+pub one_node : (S : Schema) (C : Context) (number : ℕ) (template : Option ℕ) (arg : ℕ) → Fits C
+    → OneNode S C number template arg
 one_node S C number template arg fits c d a b bytes ha hb =
     (shape_cancel S C fits c d (kind_of S C number template arg) a b [] [] ha.0 hb.0 (ap (λ s. s ++ []) (sym ha.1 ∙ hb.1))).0
 
-pub no_prefix : (S : Schema) (C : Context) (number : ℕ) (template : Option ℕ) (arg : ℕ) → Fits C → NoProperPrefix S C number template arg
+pub no_prefix : (S : Schema) (C : Context) (number : ℕ) (template : Option ℕ) (arg : ℕ) → Fits C
+    → NoProperPrefix S C number template arg
 no_prefix S C number template arg fits c d a b bytes more ha hb =
     let e : text C.order a ++ more ≡ text C.order b ++ [] = ap (λ s. s ++ more) (sym ha.1) ∙ hb.1 ∙ sym (append-nil (text C.order b)) in
     (shape_cancel S C fits c d (kind_of S C number template arg) a b more [] ha.0 hb.0 e).1
@@ -34,7 +36,9 @@ no_prefix S C number template arg fits c d a b bytes more ha hb =
 pub one_of_form : (S : Schema) (C : Context) (form : Form) → Fits C → OneForm S C form
 one_of_form S C form fits c d = form_shape_cancel S C fits c d form
 
-pub one_of_line : {Why : Type 0} (S : Schema) (at : Env → Context) (template : Option ℕ) (arg : ℕ) (check : Check Why) (fields : List Field) (E : Env) → AllFit at → OneLine S at template arg check fields E
+pub one_of_line : {Why : Type 0} (S : Schema) (at : Env → Context) (template : Option ℕ) (arg : ℕ)
+    (check : Check Why) (fields : List Field) (E : Env)
+    → AllFit at → OneLine S at template arg check fields E
 one_of_line S at template arg check fields E fits c d = line_cancel S at fits c d template arg check fields E
 
 -- ---- spelled or fails
@@ -48,13 +52,15 @@ within : (n : ℕ) (bytes : List ℕ) (p : ℕ) → IsPlace bytes p → Within (
 within n bytes p there = record { place = there.within; bytes = bytes_drop p bytes there.are_bytes }
 
 -- what stands at a place is passed
-stands_passed : (bytes : List ℕ) (p n : ℕ) (front : List ℕ) (count : ℕ) → Stands bytes p n front count → (next : Point) × Passes front count (at_place n bytes p) next
+stands_passed : (bytes : List ℕ) (p n : ℕ) (front : List ℕ) (count : ℕ) → Stands bytes p n front count
+    → (next : Point) × Passes front count (at_place n bytes p) next
 stands_passed bytes p n front count h = (
   record { nodes = n + count; place = p + length front; left = h.rest },
   record { here = h.here; place = refl; nodes = refl; within = h.within; counted = h.counted },
 )
 
-passed_stands : (bytes : List ℕ) (p n : ℕ) (front : List ℕ) (count : ℕ) (next : Point) → Passes front count (at_place n bytes p) next → Stands bytes p n front count
+passed_stands : (bytes : List ℕ) (p n : ℕ) (front : List ℕ) (count : ℕ) (next : Point)
+    → Passes front count (at_place n bytes p) next → Stands bytes p n front count
 passed_stands bytes p n front count next h =
     let place : next.place ≡ p + length front = h.place in
     let number : next.nodes ≡ n + count = h.nodes in
@@ -63,7 +69,8 @@ passed_stands bytes p n front count next h =
     record { rest = next.left; here = h.here; within = omega arith; counted = omega arith }
 
 -- a node is read or fails, and not both
-node_or_fails : (C : Context) (V : Node → Type 0) (F : Point → Fault → Type 0) → Excludes C.order V F → OneFault F → Decides C.order V F
+node_or_fails : (C : Context) (V : Node → Type 0) (F : Point → Fault → Type 0) → Excludes C.order V F → OneFault F
+    → Decides C.order V F
     → (n p : ℕ) (bytes : List ℕ) → IsPlace bytes p → ExactlyOne (NodeStands C V bytes p n) (F (at_place n bytes p))
 node_or_fails C V F excludes one decides n p bytes there = by (decides (at_place n bytes p) (within n bytes p there))
   where
@@ -76,12 +83,16 @@ node_or_fails C V F excludes one decides n p bytes there = by (decides (at_place
         )
 
 -- the same of members
-members_or_fail : {Why : Type 0} (T : Members → List ℕ) (V : Members → Type 0) (F : Point → Why → Type 0) → AllExclude T V F → OneFault F → AllDecide T V F
+members_or_fail : {Why : Type 0} (T : Members → List ℕ) (V : Members → Type 0) (F : Point → Why → Type 0)
+    → AllExclude T V F → OneFault F → AllDecide T V F
     → (n p : ℕ) (bytes : List ℕ) → IsPlace bytes p → n ≤ most_nodes
     → ExactlyOne ((members : Members) × V members × Stands bytes p n (T members) (nodes_in members)) (F (at_place n bytes p))
-members_or_fail {Why} T V F excludes one decides n p bytes there few = by (decides (at_place n bytes p) (within n bytes p there) few)
+members_or_fail {Why} T V F excludes one decides n p bytes there few =
+    by (decides (at_place n bytes p) (within n bytes p there) few)
   where
-    by : AllDecided T V F (at_place n bytes p) → ExactlyOne ((members : Members) × V members × Stands bytes p n (T members) (nodes_in members)) (F (at_place n bytes p))
+    by : AllDecided T V F (at_place n bytes p)
+        → ExactlyOne ((members : Members) × V members × Stands bytes p n (T members) (nodes_in members))
+        (F (at_place n bytes p))
     by (inl r) = inl ((r.0, r.2, passed_stands bytes p n (T r.0) (nodes_in r.0) r.1 r.3), λ w h. excludes r.0 (at_place n bytes p) r.1 w r.2 r.3 h)
     by (inr r) =
         inr (
@@ -89,13 +100,15 @@ members_or_fail {Why} T V F excludes one decides n p bytes there few = by (decid
           (r.0, r.1, λ v h. one (at_place n bytes p) v r.0 h r.1),
         )
 
-pub type_or_fails : (S : Schema) (C : Context) (number : ℕ) (template : Option ℕ) (arg : ℕ) → Fits C → IsOpenType S number → HasTemplate S number template → SpelledOrFails S C number template arg
+pub type_or_fails : (S : Schema) (C : Context) (number : ℕ) (template : Option ℕ) (arg : ℕ) → Fits C
+    → IsOpenType S number → HasTemplate S number template → SpelledOrFails S C number template arg
 type_or_fails S C number template arg fits opened has d n p bytes there =
     let kind = kind_of S C number template arg in
     node_or_fails C (Shape S C d kind) (Fails S C d kind) (shape_excludes S C fits d kind) (shape_one S C fits d kind)
     (shape_decides S C d kind (open_known S C d number template arg opened has)) n p bytes there
 
-pub form_or_fails : (S : Schema) (C : Context) (number : ℕ) (template : Option ℕ) (arg : ℕ) (f : Field) (E : Env) → Fits C → IsOpenType S number → HasTemplate S number template
+pub form_or_fails : (S : Schema) (C : Context) (number : ℕ) (template : Option ℕ) (arg : ℕ) (f : Field) (E : Env)
+    → Fits C → IsOpenType S number → HasTemplate S number template
     → Contains (line S number) f → FormSpelledOrFails S C (form_of S C template arg E f)
 form_or_fails S C number template arg f E fits opened has among d n p bytes there =
     let form = form_of S C template arg E f in
@@ -104,7 +117,8 @@ form_or_fails S C number template arg f E fits opened has among d n p bytes ther
     (form_shape_decides S C d form known) n p bytes there
 
 pub line_or_fails : {Why : Type 0} (S : Schema) (at : Env → Context) (number : ℕ) (template : Option ℕ) (arg : ℕ) (by_fault : Fault → Why) (check : Check Why)
-    → AllFit at → IsOpenType S number → HasTemplate S number template → LineSpelledOrFails S at template arg by_fault check (line S number)
+    → AllFit at → IsOpenType S number → HasTemplate S number template
+    → LineSpelledOrFails S at template arg by_fault check (line S number)
 line_or_fails S at number template arg by_fault check fits opened has d n p bytes there few =
     members_or_fail (line_text at (line S number) []) (LineShape S at d template arg check (line S number) []) (LineFails S at d template arg by_fault check (line S number) [])
     (line_excludes S at fits d template arg by_fault check (line S number) []) (line_one S at fits d template arg by_fault check (line S number) [])

@@ -45,7 +45,8 @@ pub record ArePlaces (S : Schema) (places : RolePlaces) : Type 0 where
 -- the name that an entry of the types has, by whatever schema the node is a header
 abbrev pub IsNameOf : RolePlaces → ℕ → Node → List ℕ → Type 0
 IsNameOf places entry node name =
-    (S : Schema) → IsSchema S → Roles S → ArePlaces S places → IsHeader S node → IfSome (slice_get (type_names (head_of S (members_of node))) entry) (λ named. name ≡ named)
+    (S : Schema) → IsSchema S → Roles S → ArePlaces S places → IsHeader S node
+    → IfSome (slice_get (type_names (head_of S (members_of node))) entry) (λ named. name ≡ named)
 
 -- ---- what is kept of the members, one after another
 
@@ -81,7 +82,8 @@ kept S role.Other step bytes lists = lists
 -- the lists behind so many members, each by its role
 abbrev pub kept_first : Schema → RolePlaces → ℕ → List Met → Listed
 kept_first S places zero ahead = no_lists
-kept_first S places (suc count) ahead = kept_one (kept S (role_at places count)) 0 (behind_first count ahead) (kept_first S places count ahead)
+kept_first S places (suc count) ahead =
+    kept_one (kept S (role_at places count)) 0 (behind_first count ahead) (kept_first S places count ahead)
 
 -- the lists that the members of a group give
 abbrev pub kept_of : Schema → RolePlaces → Node → Listed

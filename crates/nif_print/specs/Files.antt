@@ -58,12 +58,17 @@ file_fault_text (file.VersionDisagrees line field) =
 file_fault_text (file.EndianValue value) = counted (codes "file F8: endian value ") value
 file_fault_text (file.BsRange value) = counted (codes "file F10: BS version ") value
 file_fault_text (file.TooManyBlocks count) = counted (codes "file F11: ") count ++ codes " blocks"
-file_fault_text (file.TypeIndex block index) = counted_twice (codes "file F12: block ") block (codes " type index ") index
-file_fault_text (file.UnknownType block name) = of_block (codes "file F13: block ") block (codes " unknown type ") ++ quoted name
+file_fault_text (file.TypeIndex block index) =
+    counted_twice (codes "file F12: block ") block (codes " type index ") index
+file_fault_text (file.UnknownType block name) =
+    of_block (codes "file F13: block ") block (codes " unknown type ") ++ quoted name
 file_fault_text (file.AbstractType block) = of_block (codes "file F14: block ") block (codes " abstract type")
-file_fault_text (file.ClosedType block reason) = of_block (codes "file F15: block ") block (counted (codes " closed type C") (reason_number reason))
-file_fault_text (file.CheckWord block value) = counted_twice (codes "file F16: block ") block (codes " check word ") value
-file_fault_text (file.BlockSize block stated used) = of_block (codes "file F17: block ") block (counted_twice (codes " size ") stated (codes ", used ") used)
+file_fault_text (file.ClosedType block reason) =
+    of_block (codes "file F15: block ") block (counted (codes " closed type C") (reason_number reason))
+file_fault_text (file.CheckWord block value) =
+    counted_twice (codes "file F16: block ") block (codes " check word ") value
+file_fault_text (file.BlockSize block stated used) =
+    of_block (codes "file F17: block ") block (counted_twice (codes " size ") stated (codes ", used ") used)
 file_fault_text (file.RefRange at value) = counted_twice (codes "file F18: reference ") value (codes " at ") at
 file_fault_text (file.StringRange at value) = counted_twice (codes "file F19: text ") value (codes " at ") at
 file_fault_text (file.TooDeep at) = counted (codes "file F20: too deep at ") at

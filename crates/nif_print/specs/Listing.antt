@@ -36,11 +36,13 @@ type_lines _ _ = []
 
 -- how many types are open, and how many closed
 abbrev pub shares : ℕ → ℕ → List ℕ
-shares open_types closed_types = codes " open " ++ (decimal open_types ++ (codes " closed " ++ (decimal closed_types ++ codes "\n")))
+shares open_types closed_types =
+    codes " open " ++ (decimal open_types ++ (codes " closed " ++ (decimal closed_types ++ codes "\n")))
 
 -- the line of totals
 abbrev pub totals : ℕ → ℕ → List ℕ
-totals open_types closed_types = codes "types " ++ (decimal (open_types + closed_types) ++ shares open_types closed_types)
+totals open_types closed_types =
+    codes "types " ++ (decimal (open_types + closed_types) ++ shares open_types closed_types)
 
 abbrev pub listing : Schema → List (Option Closed) → List ℕ
 listing schema reasons = type_lines schema reasons ++ totals (count_by is_none reasons) (count_by is_some reasons)

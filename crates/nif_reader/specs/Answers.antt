@@ -40,16 +40,19 @@ pub record HasFault (S : Schema) (fault : FileFault) (rest : Option (List ℕ)) 
 -- There is no file: a read failed, memory ran out, or the bytes show the fault.
 pub record HasNoFile {T : Type 0} (left : T → Option (List ℕ)) (faults : T → ℕ) (S : Schema) (old new : Taker T) (fault : FileFault) : Type 0 where
   pub read : fault ≡ file.ReadFault → Rose (faults (source_of old)) (faults (source_of new))
-  pub stops : fault ≢ file.ReadFault → fault ≢ file.NoMemory → IfSome (left_of left old) (HasFault S fault (left (source_of new)))
+  pub stops : fault ≢ file.ReadFault → fault ≢ file.NoMemory
+      → IfSome (left_of left old) (HasFault S fault (left (source_of new)))
 
 -- What the reader answers of the bytes that a taker has still to give, from their first on.
-abbrev pub GetsFile : {T : Type 0} → (T → Option (List ℕ)) → (T → ℕ) → Schema → Taker T → Taker T → Result GraphParts FileFault → Type 0
+abbrev pub GetsFile : {T : Type 0} → (T → Option (List ℕ)) → (T → ℕ) → Schema → Taker T → Taker T
+    → Result GraphParts FileFault → Type 0
 GetsFile left faults S old new (Ok parts) = HasFile S (left_of left old) (left (source_of new)) parts
 GetsFile left faults S old new (Err fault) = HasNoFile left faults S old new fault
 
 -- A file is read, and the source is at its end, or the bytes have their first fault, each where it is told; a fault of
 -- a read comes only where their count rose.
-abbrev pub ReadsFile : {T : Type 0} → (T → Option (List ℕ)) → (T → ℕ) → Schema → T → T → Result GraphParts FileFault → Type 0
+abbrev pub ReadsFile : {T : Type 0} → (T → Option (List ℕ)) → (T → ℕ) → Schema → T → T → Result GraphParts FileFault
+    → Type 0
 ReadsFile left faults S old new (Ok parts) = HasFile S (left old) (left new) parts
 ReadsFile left faults S old new (Err file.ReadFault) = Rose (faults old) (faults new)
 ReadsFile left faults S old new (Err file.NoMemory) = ⊤

@@ -12,7 +12,8 @@ use Rattle.nif_file.specs.FileFails.{KindRefused, NameRefused}
 
 -- Memory ran out, or at whatever place the refusal is known, this is it. It is no fault of a read.
 abbrev pub Refuses : (ℕ → Stop → Type 0) → FileFault → Type 0
-Refuses P fault = (fault ≢ file.ReadFault) × (fault ≢ file.NoMemory → (known : ℕ) → P known (record { fault = fault; known = known }))
+Refuses P fault =
+    (fault ≢ file.ReadFault) × (fault ≢ file.NoMemory → (known : ℕ) → P known (record { fault = fault; known = known }))
 
 -- the type of this number is abstract or closed
 abbrev pub RefusesKind : Schema → ℕ → ℕ → FileFault → Type 0

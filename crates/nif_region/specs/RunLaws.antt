@@ -51,9 +51,11 @@ module _ {A : Type 0} where
         )
   ]
 
-  pub put-append : (key : ℕ) (value : A) (a b : List (ℕ × A)) → put key value (a ++ b) ≡ put key value a ++ put key value b
+  pub put-append : (key : ℕ) (value : A) (a b : List (ℕ × A))
+      → put key value (a ++ b) ≡ put key value a ++ put key value b
   put-append key value [] b = refl
-  put-append key value (run ∷ rest) b = ap (λ l. (run.0, if nat_eq run.0 key then value else run.1) ∷ l) (put-append key value rest b)
+  put-append key value (run ∷ rest) b =
+      ap (λ l. (run.0, if nat_eq run.0 key then value else run.1) ∷ l) (put-append key value rest b)
 
   pub put-none : (key : ℕ) (value : A) (a : List (ℕ × A)) → find a key ≡ None → put key value a ≡ a
   put-none key value [] none = refl
@@ -62,14 +64,16 @@ module _ {A : Type 0} where
     | inr e ↦ rw e.0 (ap (λ l. run ∷ l) (put-none key value rest (rw e.0 at none)))
   ]
 
-  pub find-put_same : (key : ℕ) (value old : A) (a : List (ℕ × A)) → find a key ≡ Some old → find (put key value a) key ≡ Some value
+  pub find-put_same : (key : ℕ) (value old : A) (a : List (ℕ × A)) → find a key ≡ Some old
+      → find (put key value a) key ≡ Some value
   find-put_same key value old [] there = absurd (cc)
   find-put_same key value old (run ∷ rest) there = elim (eqb_tells run.0 key) [
     | inl e ↦ rw e.0 refl
     | inr e ↦ rw e.0 (find-put_same key value old rest (rw e.0 at there))
   ]
 
-  pub find-put_other : (key other : ℕ) (value : A) (a : List (ℕ × A)) → other ≢ key → find (put key value a) other ≡ find a other
+  pub find-put_other : (key other : ℕ) (value : A) (a : List (ℕ × A)) → other ≢ key
+      → find (put key value a) other ≡ find a other
   find-put_other key other value [] ne = refl
   find-put_other key other value (run ∷ rest) ne = elim (eqb_tells run.0 other) [
     | inl e ↦ elim (eqb_tells run.0 key) [
@@ -80,7 +84,8 @@ module _ {A : Type 0} where
   ]
 
   -- what stands under a key stands nowhere else
-  pub apart-rest : (a b : List (ℕ × A)) (key : ℕ) (value : A) → AreApart (a ++ (key, value) ∷ b) → (find a key ≡ None) × (find b key ≡ None)
+  pub apart-rest : (a b : List (ℕ × A)) (key : ℕ) (value : A) → AreApart (a ++ (key, value) ∷ b)
+      → (find a key ≡ None) × (find b key ≡ None)
   apart-rest [] b key value apart = (refl, apart.0)
   apart-rest (run ∷ rest) b key value apart =
       let more = apart-rest rest b key value apart.1 in

@@ -36,7 +36,8 @@ tree_code (Number value) = gcons (gnum 0) (coded_ℕ.code value)
 tree_code Arg = gcons (gnum 1) gnil
 tree_code (Path names) = gcons (gnum 2) (coded_names.code names)
 tree_code (Not of) = gcons (gnum 3) (tree_code of)
-tree_code (Two op left right) = gcons (gnum 4) (gcons (operator.the_row.coded.code op) (gcons (tree_code left) (tree_code right)))
+tree_code (Two op left right) =
+    gcons (gnum 4) (gcons (operator.the_row.coded.code op) (gcons (tree_code left) (tree_code right)))
 
 pub tree_inj : (x y : Tree) → tree_code x ≡ tree_code y → x ≡ y
 tree_inj (Number a) (Number a') p = ap (λ n. Number n) (coded_ℕ.inj a a' (ap tail p))

@@ -22,14 +22,16 @@ paths_of (Path names) = names ∷ []
 paths_of (Not of) = paths_of of
 paths_of (Two op left right) = paths_of left ++ paths_of right
 
--- The bytes of an integer that may store an enum, bitflags or bitfield: those of a number that is no `bool` and no float.
+-- The bytes of an integer that may store an enum, bitflags or bitfield: those of a number that is no `bool` and no
+-- float.
 abbrev pub integer_width : What → Option ℕ
 integer_width (Basic (leaf.Num width signed little false)) = Some width
 integer_width _ = None
 
 -- the bytes of the basic that a stored type names as its storage
 unfoldable pub storage_width : Schema → Option Name → Option ℕ
-storage_width schema storage = option_and_then integer_width (option_and_then (what_at schema) (option_and_then (find schema) storage))
+storage_width schema storage =
+    option_and_then integer_width (option_and_then (what_at schema) (option_and_then (find schema) storage))
 
 -- Numbers are the integers, `bool`, and what is stored as an integer.
 abbrev pub is_number_type : Schema → What → Bool

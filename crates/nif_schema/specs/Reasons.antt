@@ -31,7 +31,8 @@ reason_where reason applies = if applies then Some reason else None
 
 -- C2: it inherits from a name that is no declared block type
 unfoldable pub lacks_parent : Schema → ℕ → Bool
-lacks_parent schema number = is_some (option_and_then (λ d. inherited d.what) (slice_get schema number)) && is_none (parent schema number)
+lacks_parent schema number =
+    is_some (option_and_then (λ d. inherited d.what) (slice_get schema number)) && is_none (parent schema number)
 
 -- C3: The walk of parents doesn't end. It ends where fewer steps lead to no parent than there are declarations.
 unfoldable pub has_no_root : Schema → ℕ → Bool
@@ -40,7 +41,8 @@ has_no_root schema number = is_some (ancestor schema (length schema) number)
 -- C0: one of so many ancestors has no parent where it names one
 abbrev pub ancestor_lacks : ℕ → Schema → ℕ → Bool
 ancestor_lacks zero schema number = false
-ancestor_lacks (suc most) schema number = option_map_or (λ above. lacks_parent schema above || ancestor_lacks most schema above) (parent schema number) false
+ancestor_lacks (suc most) schema number =
+    option_map_or (λ above. lacks_parent schema above || ancestor_lacks most schema above) (parent schema number) false
 
 -- C10: a basic that can't be read, or a storage that is no integer
 abbrev pub is_unread : Schema → What → Bool
@@ -53,26 +55,31 @@ abbrev pub is_bad_member : ℕ → BitMember → Bool
 is_bad_member width m = m.bad || nat_lt (8 * width) (m.pos + m.width)
 
 abbrev pub has_bad_member : Schema → What → Bool
-has_bad_member schema (Stored storage members) = option_map_or (λ width. list_any (is_bad_member width) members) (storage_width schema storage) false
+has_bad_member schema (Stored storage members) =
+    option_map_or (λ width. list_any (is_bad_member width) members) (storage_width schema storage) false
 has_bad_member schema _ = false
 
 -- A name in a field is that of a declaration, or `#T#` in a struct.
 abbrev pub names_type : Schema → Bool → (ℕ → Bool) → Name → Bool
-names_type schema in_struct accepts name = (in_struct && is_own_template name) || option_map_or accepts (named schema name) false
+names_type schema in_struct accepts name =
+    (in_struct && is_own_template name) || option_map_or accepts (named schema name) false
 
 -- C1: the type is neither `#T#` in a struct nor a declared type other than a block type
 abbrev pub kind_reason : Schema → Bool → Field → Option Closed
-kind_reason schema in_struct f = reason_where C1 (not (names_type schema in_struct (λ number. not (has_block schema number)) f.kind))
+kind_reason schema in_struct f =
+    reason_where C1 (not (names_type schema in_struct (λ number. not (has_block schema number)) f.kind))
 
 -- C7 and C8: A generic struct needs a template, which is `#T#` in a struct or a declared type that isn't generic.
 -- The template of a reference, where it has one, is `#T#` in a struct or a declared block type.
 abbrev pub generic_template_reason : Schema → Bool → Option Name → Option Closed
 generic_template_reason schema in_struct None = Some C7
-generic_template_reason schema in_struct (Some name) = reason_where C8 (not (names_type schema in_struct (λ number. not (is_generic schema number)) name))
+generic_template_reason schema in_struct (Some name) =
+    reason_where C8 (not (names_type schema in_struct (λ number. not (is_generic schema number)) name))
 
 abbrev pub reference_template_reason : Schema → Bool → Option Name → Option Closed
 reference_template_reason schema in_struct None = None
-reference_template_reason schema in_struct (Some name) = reason_where C8 (not (names_type schema in_struct (has_block schema) name))
+reference_template_reason schema in_struct (Some name) =
+    reason_where C8 (not (names_type schema in_struct (has_block schema) name))
 
 abbrev pub template_reason : Schema → Bool → Field → Option Closed
 template_reason schema in_struct f =
@@ -103,7 +110,8 @@ formula_reason schema earlier (Some (Read of)) = first_reason (map (path_reason 
 
 -- C9: the earlier fields of a bare name in `width` are neither all numbers nor all arrays of numbers of one dimension
 abbrev pub bare_width_reason : Schema → List Field → Option Closed
-bare_width_reason schema fields = reason_where C9 (not (list_all (is_number schema) fields || list_all (is_number_array schema) fields))
+bare_width_reason schema fields =
+    reason_where C9 (not (list_all (is_number schema) fields || list_all (is_number_array schema) fields))
 
 -- A bare name that an earlier field declares is looked at by C9 alone.
 abbrev pub width_reason : Schema → List Field → Option Formula → Option Closed

@@ -56,7 +56,8 @@ abbrev pub is_array : Field → Bool
 is_array f = is_some f.length
 
 abbrev pub has_no_condition : Field → Bool
-has_no_condition f = is_none f.cond && (is_none f.vercond && (is_none f.user && (is_none f.bs && (is_none f.only && is_none f.exclude))))
+has_no_condition f =
+    is_none f.cond && (is_none f.vercond && (is_none f.user && (is_none f.bs && (is_none f.only && is_none f.exclude))))
 
 -- no attribute but the name, the type, and perhaps `length`, `since` and `until`
 abbrev pub is_plain : Field → Bool
@@ -141,7 +142,8 @@ is_stored_byte schema (Stored storage members) = option_map_or (declares schema 
 is_stored_byte schema _ = false
 
 unfoldable pub is_of_byte : Schema → Field → Bool
-is_of_byte schema f = option_map_or (is_stored_byte schema) (option_and_then (what_at schema) (named schema f.kind)) false
+is_of_byte schema f =
+    option_map_or (is_stored_byte schema) (option_and_then (what_at schema) (named schema f.kind)) false
 
 -- a basic that refers to a block or to a string of the header
 abbrev pub refers : What → Bool
@@ -171,8 +173,8 @@ unfoldable pub has_line : Schema → List Field → Bool
 has_line schema fields = option_map_or (λ f.
     is_named (codes "Header String") f && (is_of_basic schema (codes "HeaderString") f && is_bare f)) (slice_get fields 0) false
 
--- 3. Header has one `Version` of the basic `FileVersion`, present in all accepted versions, with no other attribute than
--- `since` and `until`. What stands behind the line and before it is present in no accepted version.
+-- 3. Header has one `Version` of the basic `FileVersion`, present in all accepted versions, with no other attribute
+-- than `since` and `until`. What stands behind the line and before it is present in no accepted version.
 unfoldable pub has_version : Schema → List Field → Bool
 has_version schema fields =
     is_one (λ f. is_of_basic schema (codes "FileVersion") f && is_always f) (of_name (codes "Version") fields)
@@ -185,12 +187,13 @@ has_count schema fields =
     is_one (λ f. is_of_basic schema (codes "ulittle32") f && is_always f) (of_name (codes "Num Blocks") fields)
     && is_after_version (codes "Num Blocks") fields
 
--- 5. `Endian Type`, `User Version`, `User Version 2` and `BS Header` stand at most once each, after `Version`, and are no
--- arrays. The first is a number of one byte, not signed; the two user versions are of the basic `ulittle32`; `BS Header`
--- is a struct that takes no template, with one field `BS Version` of the basic `ulittle32`, no array. It doesn't stand
--- beside `User Version 2`.
+-- 5. `Endian Type`, `User Version`, `User Version 2` and `BS Header` stand at most once each, after `Version`, and are
+-- no arrays. The first is a number of one byte, not signed; the two user versions are of the basic `ulittle32`; `BS
+-- Header` is a struct that takes no template, with one field `BS Version` of the basic `ulittle32`, no array. It
+-- doesn't stand beside `User Version 2`.
 abbrev pub is_once_behind : Name → (Field → Bool) → List Field → Bool
-is_once_behind name passes fields = is_at_most_one (λ f. not (is_array f) && passes f) (of_name name fields) && is_after_version name fields
+is_once_behind name passes fields =
+    is_at_most_one (λ f. not (is_array f) && passes f) (of_name name fields) && is_after_version name fields
 
 abbrev pub has_bs_version : Schema → ℕ → Bool
 has_bs_version schema number =
@@ -209,10 +212,10 @@ has_user_versions schema fields =
     && (is_once_behind (codes "BS Header") (is_bs_header schema) fields
     && not (list_any (is_named (codes "User Version 2")) fields && list_any (is_named (codes "BS Header")) fields))))
 
--- 6. `Num Block Types`, `Block Types`, `Block Type Index`, `Block Size`, `Num Strings` and `Strings` stand at most once
--- each. The two counts are no arrays: the first of the basic `ushort` or `uint`, the other of `uint`. `Block Types` and
--- `Strings` are of the struct `SizedString`, as many as their counts; `Block Type Index` of the basic `BlockTypeIndex` and
--- `Block Size` of `uint`, as many as `Num Blocks`. None has `width` or `arg`.
+-- 6. `Num Block Types`, `Block Types`, `Block Type Index`, `Block Size`, `Num Strings` and `Strings` stand at most
+-- once each. The two counts are no arrays: the first of the basic `ushort` or `uint`, the other of `uint`. `Block
+-- Types` and `Strings` are of the struct `SizedString`, as many as their counts; `Block Type Index` of the basic
+-- `BlockTypeIndex` and `Block Size` of `uint`, as many as `Num Blocks`. None has `width` or `arg`.
 abbrev pub is_once : Name → (Field → Bool) → List Field → Bool
 is_once name passes fields = is_at_most_one passes (of_name name fields)
 
@@ -245,7 +248,8 @@ has_string_lists schema fields =
     && is_once (codes "Strings") (are_strings schema (codes "Num Strings")) fields
 
 unfoldable pub has_lists : Schema → List Field → Bool
-has_lists schema fields = has_type_lists schema fields && (has_block_lists schema fields && has_string_lists schema fields)
+has_lists schema fields =
+    has_type_lists schema fields && (has_block_lists schema fields && has_string_lists schema fields)
 
 -- 7. Where `Block Types` or `Strings` stands, `SizedString` has exactly the fields `Length` of the basic `uint` and
 -- `Value` of the basic `char` with the length `Length`, with no other attribute.
@@ -265,7 +269,8 @@ has_sized_strings schema fields =
     || are_sized schema (sized_fields schema)
 
 -- 8. No expression of a field of Header names `Num Blocks`, `Num Block Types`, `Num Strings`, `Block Type Index` or
--- `Block Size` as its first name, but for the lengths of rule 6. A field that is present in no accepted version isn't asked.
+-- `Block Size` as its first name, but for the lengths of rule 6. A field that is present in no accepted version isn't
+-- asked.
 abbrev pub is_counted : Name → Bool
 is_counted name =
     bytes_eq name (codes "Num Blocks") || (bytes_eq name (codes "Num Block Types") || (bytes_eq name (codes "Num Strings")
@@ -295,7 +300,8 @@ has_independent_fields fields = list_all (λ f. is_never f || is_independent f) 
 -- 9. No walk of uses leads from Header to `Ref`, `Ptr` or `NiFixedString`.
 abbrev pub RefersNowhere : Schema → Type 0
 RefersNowhere schema =
-    (header to : ℕ) (what : What) → find schema (codes "Header") ≡ Some header → Reaches schema header to → what_at schema to ≡ Some what → refers what ≡ false
+    (header to : ℕ) (what : What) → find schema (codes "Header") ≡ Some header → Reaches schema header to
+    → what_at schema to ≡ Some what → refers what ≡ false
 
 -- ---- all of them
 

@@ -24,11 +24,13 @@ has_block schema number = option_map_or (λ d. is_block d.what) (slice_get schem
 
 -- the number of the declaration of a name, where that is a block type
 abbrev pub find_block : Schema → Name → Option ℕ
-find_block schema name = option_and_then (λ number. if has_block schema number then Some number else None) (find schema name)
+find_block schema name =
+    option_and_then (λ number. if has_block schema number then Some number else None) (find schema name)
 
 -- the parent of a declaration: the declared block type that it inherits from, if there is one
 unfoldable pub parent : Schema → ℕ → Option ℕ
-parent schema number = option_and_then (find_block schema) (option_and_then (λ d. inherited d.what) (slice_get schema number))
+parent schema number =
+    option_and_then (find_block schema) (option_and_then (λ d. inherited d.what) (slice_get schema number))
 
 -- where so many steps lead, each from a block type to its parent
 abbrev pub ancestor : Schema → ℕ → ℕ → Option ℕ
@@ -46,7 +48,8 @@ IsA schema number of = (steps : ℕ) × (ancestor schema steps number ≡ Some o
 -- The same as a function, over at most so many steps. An ancestor is fewer steps away than there are declarations.
 abbrev pub is_a_within : ℕ → Schema → ℕ → ℕ → Bool
 is_a_within zero schema number of = nat_eq number of
-is_a_within (suc most) schema number of = nat_eq number of || option_map_or (λ above. is_a_within most schema above of) (parent schema number) false
+is_a_within (suc most) schema number of =
+    nat_eq number of || option_map_or (λ above. is_a_within most schema above of) (parent schema number) false
 
 abbrev pub is_a : Schema → ℕ → ℕ → Bool
 is_a schema number of = is_a_within (length schema) schema number of
@@ -55,7 +58,8 @@ is_a schema number of = is_a_within (length schema) schema number of
 pub data IsLine (schema : Schema) : ℕ → List Field → Type 0 where
   Root : (number : ℕ) → parent schema number ≡ None → IsLine schema number (fields_of schema number)
   Child : (number above : ℕ) (line : List Field)
-      → parent schema number ≡ Some above → IsLine schema above line → IsLine schema number (line ++ fields_of schema number)
+      → parent schema number ≡ Some above → IsLine schema above line
+      → IsLine schema number (line ++ fields_of schema number)
 
 -- The same as a function, over at most so many declarations. A walk of parents that ends meets each declaration at
 -- most once, so the number of declarations is enough.

@@ -36,7 +36,8 @@ unfoldable pub takes_template : Field → Bool
 takes_template f = is_own_template f.kind || option_map_or is_own_template f.template false
 
 abbrev pub is_generic : Schema → ℕ → Bool
-is_generic schema number = option_map_or (λ d. is_struct d.what && list_any takes_template d.fields) (slice_get schema number) false
+is_generic schema number =
+    option_map_or (λ d. is_struct d.what && list_any takes_template d.fields) (slice_get schema number) false
 
 -- the declaration that the template of a field names
 abbrev pub named_template : Schema → Field → Option ℕ
@@ -54,4 +55,5 @@ uses schema number = option_to_list (parent schema number) ++ flat_map (uses_of_
 -- A walk of none or more uses leads from one declaration to another.
 pub data Reaches (schema : Schema) : ℕ → ℕ → Type 0 where
   Here : (number : ℕ) → Reaches schema number number
-  Further : (number over to : ℕ) → Contains (uses schema number) over → Reaches schema over to → Reaches schema number to
+  Further : (number over to : ℕ) → Contains (uses schema number) over → Reaches schema over to
+      → Reaches schema number to

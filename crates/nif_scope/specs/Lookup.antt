@@ -54,7 +54,8 @@ name_told name (f ∷ fields) (e ∷ rest) = bytes_eq name f.name || name_told n
 abbrev pub array_told : Name → Bool → List Field → List Entry → Bool
 array_told name got [] entries = got
 array_told name got (f ∷ fields) [] = got
-array_told name got (f ∷ fields) (e ∷ rest) = array_told name (if bytes_eq name f.name then is_some f.length else got) fields (drop (inside e) rest)
+array_told name got (f ∷ fields) (e ∷ rest) =
+    array_told name (if bytes_eq name f.name then is_some f.length else got) fields (drop (inside e) rest)
 
 -- the number that an entry is, extended by its sign where it is signed, and 0 where it is none
 abbrev pub number_told : Bool → Entry → ℕ

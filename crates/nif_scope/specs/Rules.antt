@@ -15,7 +15,8 @@ abbrev pub holds_by : (Formula → ℕ) → Option Formula → Bool
 holds_by value condition = option_map_or (λ f. is_true (value f)) condition true
 
 abbrev pub is_in_versions : Context → Field → Bool
-is_in_versions C f = is_from C.version f.since && is_up_to C.version f.until && is_exactly C.user f.user && is_exactly C.bs f.bs
+is_in_versions C f =
+    is_from C.version f.since && is_up_to C.version f.until && is_exactly C.user f.user && is_exactly C.bs f.bs
 
 abbrev pub is_in_blocks : Schema → Context → Field → Bool
 is_in_blocks schema C f =
@@ -23,7 +24,8 @@ is_in_blocks schema C f =
     && option_map_or (λ name. not (is_owned_by schema C.owner name)) f.exclude true
 
 abbrev pub present_by : Schema → Context → (Formula → ℕ) → Field → Bool
-present_by schema C value f = is_in_versions C f && holds_by value f.vercond && holds_by value f.cond && is_in_blocks schema C f
+present_by schema C value f =
+    is_in_versions C f && holds_by value f.vercond && holds_by value f.cond && is_in_blocks schema C f
 
 -- what one value of a field is
 abbrev pub kind_by : Schema → Context → Option ℕ → (Formula → ℕ) → Field → Kind

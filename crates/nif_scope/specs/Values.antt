@@ -49,4 +49,5 @@ item_at at entries i name =
 
 -- the length of row i: item i of the array that `width` is the bare name of, else the value of `width`
 abbrev pub row_width : Setting → List Entry → Formula → ℕ → ℕ
-row_width at entries width i = option_map_or (item_at at entries i) (array_at at entries width) (formula_at at entries width)
+row_width at entries width i =
+    option_map_or (item_at at entries i) (array_at at entries width) (formula_at at entries width)

@@ -24,17 +24,20 @@ HasFailed putter = putter.failed ≡ true
 unfoldable pub HasTaken : {K : Type 0} → (K → List ℕ → K → Type 0) → K → K → List ℕ → Type 0
 HasTaken grew start now all = (count : ℕ) × grew start (take count all) now
 
--- these are all the bytes that were put since the start: those that the sink took, and behind them those that are pending
+-- these are all the bytes that were put since the start: those that the sink took, and behind them those that are
+-- pending
 unfoldable pub HasPut : {K : Type 0} → (K → List ℕ → K → Type 0) → K → Putter K → List ℕ → Type 0
 HasPut grew start putter all = (sent : List ℕ) × grew start sent (sink_of putter) × (sent ++ putter.pending ≡ all)
 
 -- whatever was put before, these bytes were put behind it
 unfoldable pub Adds : {K : Type 0} → (K → List ℕ → K → Type 0) → Putter K → List ℕ → Putter K → Type 0
-Adds {K = K} grew old bytes new = (start : K) (all : List ℕ) → HasPut grew start old all → HasPut grew start new (all ++ bytes)
+Adds {K = K} grew old bytes new =
+    (start : K) (all : List ℕ) → HasPut grew start old all → HasPut grew start new (all ++ bytes)
 
 -- whatever was put before, the sink took the first of it and of these bytes behind it
 unfoldable pub AddsPart : {K : Type 0} → (K → List ℕ → K → Type 0) → Putter K → List ℕ → Putter K → Type 0
-AddsPart {K = K} grew old bytes new = (start : K) (all : List ℕ) → HasPut grew start old all → HasTaken grew start (sink_of new) (all ++ bytes)
+AddsPart {K = K} grew old bytes new =
+    (start : K) (all : List ℕ) → HasPut grew start old all → HasTaken grew start (sink_of new) (all ++ bytes)
 
 -- a call put these bytes
 pub record Puts {K : Type 0} (grew : K → List ℕ → K → Type 0) (faults : K → ℕ) (old : Putter K) (bytes : List ℕ) (new : Putter K) : Type 0 where
@@ -43,7 +46,8 @@ pub record Puts {K : Type 0} (grew : K → List ℕ → K → Type 0) (faults : 
   pub sound : IsSound new
   pub adds : Adds grew old bytes new
 
--- a call that was to put these bytes answered a fault: the sink's count of faults rose in it, unless a write had failed before
+-- a call that was to put these bytes answered a fault: the sink's count of faults rose in it, unless a write had
+-- failed before
 pub record Fails {K : Type 0} (grew : K → List ℕ → K → Type 0) (faults : K → ℕ) (old : Putter K) (bytes : List ℕ) (new : Putter K) : Type 0 where
   pub same_reference : new.sink.ghost_name ≡ old.sink.ghost_name
   pub later : faults (sink_of old) ≤ faults (sink_of new)
