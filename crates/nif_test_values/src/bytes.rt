@@ -3,10 +3,11 @@ ghost use Rattle.std.specs.Prelude.{◌≡◌, None, Some, OnOk, IfOk};
 ghost use Rattle.nif_region.specs.Contents.{find};
 ghost use Rattle.nif_test_values.specs.Encoded.{encoded};
 
-use nif_base::{MemSink, NoMemory, Order};
+use nif_base::{MemSink, NoMemory, Order, WriteFault};
 use nif_encode::{encode_member, encode_members, encode_value};
 use nif_stream::Putter;
 use nif_value::{RefView, Store, TreeId};
+use std::alloc::Global;
 use std::test::Fail;
 
 /// The bytes of the tree in a little file, and in a big one.
@@ -51,26 +52,58 @@ fn build(store: &mut Store) -> Result<TreeId, NoMemory>
     Ok(store.finish())
 }
 
+/// Puts the tree whole.
+fn put_whole(
+    store: &Store,
+    tree: TreeId,
+    order: Order,
+    sink: &mut MemSink,
+) -> Result<(), WriteFault>
+    requires { find store.now.trees tree.run.key ≡ Some encoded }
+{
+    let mut out = Putter::new(sink);
+    match encode_value(store, tree, order, &mut out) {
+        Ok(()) => out.finish(),
+        Err(fault) => Err(fault),
+    }
+}
+
+/// Puts the members of the tree: the first four one by one, none, and the others.
+fn put_members(
+    store: &Store,
+    tree: TreeId,
+    order: Order,
+    sink: &mut MemSink,
+) -> Result<(), WriteFault>
+    requires { find store.now.trees tree.run.key ≡ Some encoded }
+{
+    let mut out = Putter::new(sink);
+    for member in 0..4 {
+        encode_member(store, tree, member, order, &mut out)?;
+    }
+    encode_members(store, tree, 4, 4, order, &mut out)?;
+    encode_members(store, tree, 4, 12, order, &mut out)?;
+    out.finish()
+}
+
+/// Whether the tree gives these bytes, whole and by its members.
+fn gives(alloc: Global, store: &Store, tree: TreeId, order: Order, bytes: &[u8]) -> bool
+    requires { find store.now.trees tree.run.key ≡ Some encoded }
+{
+    let mut whole = MemSink::new(alloc, 7, None);
+    let mut parts = MemSink::new(alloc, 7, None);
+    put_whole(store, tree, order, &mut whole).is_ok()
+        && put_members(store, tree, order, &mut parts).is_ok()
+        && whole.bytes() == bytes
+        && parts.bytes() == bytes
+}
+
 #[test]
 fn puts_each_kind_in_each_order(rt: HostRuntime) -> Result<(), Fail> {
     let mut store = Store::new(rt.alloc());
     let tree = build(&mut store)?;
-    for (order, bytes) in [(Order::Little, LITTLE), (Order::Big, BIG)] {
-        let mut sink = MemSink::new(rt.alloc(), 7, None);
-        let mut out = Putter::new(&mut sink);
-        encode_value(&store, tree, order, &mut out)?;
-        out.finish()?;
-        assert!(rt; sink.bytes() == bytes);
-        let mut sink = MemSink::new(rt.alloc(), 7, None);
-        let mut out = Putter::new(&mut sink);
-        for member in 0..4 {
-            encode_member(&store, tree, member, order, &mut out)?;
-        }
-        encode_members(&store, tree, 4, 4, order, &mut out)?;
-        encode_members(&store, tree, 4, 12, order, &mut out)?;
-        out.finish()?;
-        assert!(rt; sink.bytes() == bytes);
-    }
+    assert!(rt; gives(rt.alloc(), &store, tree, Order::Little, LITTLE));
+    assert!(rt; gives(rt.alloc(), &store, tree, Order::Big, BIG));
     Ok(())
 }
 

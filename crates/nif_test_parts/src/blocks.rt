@@ -75,15 +75,31 @@ const STEPS: [Step; 10] = [
     Step::End,
 ];
 
+/// Whether a walk through a tree has these steps.
+fn has_steps(store: &Store, tree: TreeId) -> bool
+    requires { IsLive store.now tree.run.key }
+{
+    let mut walk = store.walk(tree);
+    for step in STEPS {
+        if walk.next() != Some(step) {
+            return false;
+        }
+    }
+    walk.next().is_none()
+}
+
+/// Reads a block into a store of its own, and says whether it has these steps.
+fn reads(alloc: Global, checked: &Checked, bytes: &[u8]) -> Result<bool, Fail> {
+    let mut store = Store::new(alloc);
+    match read_ragged(alloc, checked, bytes, &mut store) {
+        Ok(tree) => Ok(has_steps(&store, tree)),
+        Err(fail) => Err(fail),
+    }
+}
+
 #[test]
 fn gives_each_ragged_row_its_length(rt: HostRuntime) -> Result<(), Fail> {
     let checked = scene(rt.alloc())?;
-    let mut store = Store::new(rt.alloc());
-    let tree = read_ragged(rt.alloc(), &checked, b"\x01\x02\x03\xaa\xbb", &mut store)?;
-    let mut walk = store.walk(tree);
-    for step in STEPS {
-        assert!(rt; walk.next() == Some(step));
-    }
-    assert!(rt; walk.next() == None);
+    assert!(rt; reads(rt.alloc(), &checked, b"\x01\x02\x03\xaa\xbb")?);
     Ok(())
 }
