@@ -11,8 +11,6 @@
 pub mod distinct;
 pub mod meanings;
 pub mod sets;
-#[cfg(test)]
-mod tests;
 
 pub use meanings::{Meaning, meaning_in};
 pub use sets::{Inside, Sets, TypeSet};
