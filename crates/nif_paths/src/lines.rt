@@ -41,7 +41,7 @@ impl Line {
         self.names.look(name)
     }
 
-    /// Puts a field behind the others.
+    /// Puts a field behind the others; after want of memory the line isn't to be used again.
     pub fn push(&mut self, schema: &Schema, generic: &[bool], of: &Field) -> Result<(), NoMemory>
         requires { AreMarks schema.now generic.now }
         ensures { OnOk result ((fields : List plain.Field) → IsLine schema.now fields self.old → IsLine schema.now (fields ++ field of.now ∷ []) self.new) }

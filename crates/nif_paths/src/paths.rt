@@ -152,7 +152,7 @@ fn unkept_reason(
     }
 }
 
-/// Why a path closes a type, behind the fields of a line.
+/// Why a path closes a type, behind the fields of a line; after want of memory the line isn't to be used again.
 pub fn path_reason(
     alloc: Global,
     tables: &[Names],

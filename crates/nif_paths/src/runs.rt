@@ -78,7 +78,7 @@ fn run_key(alloc: Global, from: u32, to: u32) -> Result<Vec<u16>, NoMemory>
     }
 }
 
-/// The set that was kept of a run of types, if there is one.
+/// A set that was kept of a run of types; it may be forgotten.
 fn kept_set(line: &mut Line, first: &[u8], key: &[u16], to: u32) -> Option<TypeSet>
     ensures same { line.new ≡ line.old }
     ensures within { IfSome result (λ set. IsSet line.old.sets set) }

@@ -1,5 +1,18 @@
 -- What holds of each place of a list.
-use Rattle.std.proofs.Common.{set, ◌⊎◌, inl, inr, ◌≡◌, ℕ, zero, suc, ◌+◌, List, [], ◌∷◌, ◌<◌, length, Some, slice_get, drop, ap, arith, refl}
+use Rattle.std.proofs.Common.{set, ◌⊎◌, inl, inr, ◌≡◌, ℕ, zero, suc, ◌+◌, List, [], ◌∷◌, ◌<◌, length, Some, slice_get, drop, ap, arith, refl, ◌++◌, ◌≤◌, take, ◌∙◌}
+
+-- one more of those in front
+pub take-next : {X : Type 0} (xs : List X) (n : ℕ) (x : X) → slice_get xs n ≡ Some x → take (n + 1) xs ≡ take n xs ++ x ∷ []
+take-next [] n x e = absurd (cc)
+take-next (y ∷ ys) zero x e = let same : y ≡ x = cc in let z : 0 + 1 ≡ suc zero = omega arith in ap (λ m. take m (y ∷ ys)) z ∙ ap (λ v. v ∷ []) same
+take-next (y ∷ ys) (suc n) x e = let z : suc n + 1 ≡ suc (n + 1) = omega arith in ap (λ m. take m (y ∷ ys)) z ∙ ap (λ l. y ∷ l) (take-next ys n x e)
+
+-- what is left behind all members
+pub drop_past : {X : Type 0} (xs : List X) (n : ℕ) → length xs ≤ n → drop n xs ≡ []
+drop_past [] zero le = refl
+drop_past [] (suc n) le = refl
+drop_past (x ∷ xs) zero le = absurd (omega arith)
+drop_past (x ∷ xs) (suc n) le = drop_past xs n (omega arith)
 
 -- what is left at a member that was got
 pub drop-next : {X : Type 0} (xs : List X) (n : ℕ) (x : X) → slice_get xs n ≡ Some x → drop n xs ≡ x ∷ drop (n + 1) xs

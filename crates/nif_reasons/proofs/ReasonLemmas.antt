@@ -1,5 +1,6 @@
 -- The first reason of a list.
 use Rattle.std.proofs.Common.{◌≡◌, Bool, true, false, cond, List, [], ◌∷◌, ◌++◌, map, Option, Some, None, is_some, IfOk, OnOk, Ok, Err, Result, refl, sym, ap, ◌∙◌}
+use Rattle.std.specs.Option.{option_map}
 use Rattle.std.proofs.lemmas.List.{map-append}
 use Rattle.std.proofs.Common.{◌≢◌, not, ◌&&◌, ◌||◌, filter, bytes_eq}
 use Rattle.std.specs.List.{list_any, list_all}
@@ -21,6 +22,15 @@ on (Err e) p f = tt
 pub on-ok : {E : Type 0} {P Q : Type 0} (r : Result (Unit {0}) E) → OnOk r P → (P → Q) → OnOk r Q
 on-ok (Ok x) p f = f p
 on-ok (Err e) p f = tt
+
+-- an option with its value changed
+pub none_mapped : {X Y : Type 0} (f : X → Y) (o : Option X) → is_some o ≡ false → option_map f o ≡ None
+none_mapped f None e = refl
+none_mapped f (Some x) e = absurd (cc)
+
+pub some_mapped : {X Y : Type 0} (f : X → Y) (o : Option X) → is_some o ≡ true → is_some (option_map f o) ≡ true
+some_mapped f None e = absurd (cc)
+some_mapped f (Some x) e = refl
 
 pub first-here : (a : Option Closed) (rest : List (Option Closed)) → is_some a ≡ true → a ≡ first_reason (a ∷ rest)
 first-here None rest e = absurd (cc)

@@ -16,7 +16,7 @@ use nif_paths::Line;
 use nif_schema::{Closed, Field, Fields, Schema, What};
 use std::alloc::Global;
 
-/// A way from a root down to a type, with a line of the fields on it.
+/// A way from a root down to a type, with a line of the fields on it. After want of memory it isn't to be used again.
 #[derive(Drop)]
 pub struct Way {
     pub stack: Vec<u32>,

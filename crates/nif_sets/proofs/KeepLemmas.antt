@@ -1,5 +1,5 @@
 -- Sets with one more, if it isn't there.
-use Rattle.std.proofs.Common.{◌≡◌, ℕ, ◌+◌, Bool, true, false, not, if◌then◌else◌, List, [], ◌∷◌, ◌++◌, length, map, flat_map, slice_get, get_or, ◌<◌, ◌≤◌, Option, None, IfSome, Some, arith, Vec, Global, ap, subst, sym, ◌∙◌}
+use Rattle.std.proofs.Common.{◌≡◌, ℕ, ◌+◌, Bool, true, false, if◌then◌else◌, List, [], ◌∷◌, ◌++◌, length, map, flat_map, slice_get, get_or, ◌<◌, ◌≤◌, Option, None, IfSome, Some, arith, Vec, Global, ap, subst, sym, ◌∙◌}
 use Rattle.std.specs.List.{All, sum_by}
 use Rattle.std.specs.Option.{option_map}
 use Rattle.std.proofs.lemmas.List.{append-nil, map-append, length-append, length-map}
@@ -16,16 +16,6 @@ use Rattle.nif_sets.proofs.SetLemmas.{AreBefore-push, IsBelow-more, types-joined
 -- the parts of sets
 abbrev pub parts : List (Vec TypeSet Global) → List (List TypeSet)
 parts keys = map (λ own. own.items) keys
-
--- what is counted, with what is new
-pub counts-more : (any is_new : Bool) (count many more whole : ℕ) → is_new ≡ not any → more ≡ count + many → whole ≡ (if is_new then more else count) → whole ≡ count + (if any then 0 else many)
-counts-more any is_new count many more whole new is chosen = by any is_new new chosen
-  where
-    by : (b c : Bool) → c ≡ not b → whole ≡ (if c then more else count) → whole ≡ count + (if b then 0 else many)
-    by true true e w = absurd (cc)
-    by true false e w = omega (arith, w)
-    by false true e w = omega (arith, w, is)
-    by false false e w = absurd (cc)
 
 -- the parts at a place
 pub part-at : (keys : List (Vec TypeSet Global)) (number : ℕ) (own : Vec TypeSet Global) (sets : List TypeSet)

@@ -1,5 +1,5 @@
 //! Sets of types, with what is known of names in them.
-ghost use Rattle.std.specs.Prelude.{◌≡◌, ◌≢◌, ◌↔◌, if◌then◌else◌, ◌<◌, ◌⊎◌, ℕ, List, [], ◌∷◌, ◌++◌, length, flat_map, IfOk, OnOk, IfSome, IsTrue, Contains};
+ghost use Rattle.std.specs.Prelude.{◌≡◌, ◌≢◌, ◌↔◌, ◌<◌, ◌⊎◌, ℕ, List, [], ◌∷◌, ◌++◌, length, flat_map, IfOk, OnOk, OnErr, IfSome, IsTrue, Contains};
 ghost use Rattle.std.specs.List.{All};
 ghost use Rattle.std.specs.Option.{option_map_or};
 ghost use Rattle.nif_names.specs.Tables.{Table};
@@ -11,10 +11,11 @@ ghost use Rattle.nif_sets.specs.Insides.{AreKnown, IsInside, held_at};
 
 use crate::distinct;
 use crate::meanings::shapes_at;
-use indexmap::{IndexMap, IndexSet};
+use indexmap::IndexSet;
 use nif_base::NoMemory;
 use nif_names::Names;
 use std::alloc::Global;
+use std::collections::BTreeMap;
 use std::marker::Model;
 
 /// How many types a set may have that is kept as its types, and not as its parts.
@@ -24,7 +25,7 @@ const FEW: usize = 64;
 const MOST: u64 = 1 << 22;
 
 /// A set of types.
-#[derive(Debug, Clone, Copy, PartialEq, Eq, Hash)]
+#[derive(Debug, Clone, Copy, PartialEq, Eq, Hash, PartialOrd, Ord)]
 pub enum TypeSet {
     /// The set of one type.
     One { number: u32 },
@@ -44,20 +45,25 @@ pub struct Inside {
 }
 
 /// A name in a set.
-#[derive(PartialEq, Eq, Hash, Drop)]
+#[derive(PartialEq, Eq, PartialOrd, Ord, Drop)]
 pub struct Key {
     set: TypeSet,
     name: Vec<u8>,
 }
 
-/// Joined sets of types, and what is known of names in sets.
+/// Joined sets of types, and what is known of names in sets. After want of memory in `join`, `of_types` or `inside` they
+/// aren't to be used again.
 #[derive(Drop)]
 pub struct Sets {
     alloc: Global,
-    /// The parts of each joined set: single types, or sets that were joined before it. No two have the same parts.
-    parts: IndexSet<Vec<TypeSet>>,
+    /// The parts of each joined set: single types, or sets that were joined before it.
+    parts: Vec<Vec<TypeSet>>,
+    /// The number of the joined set that has some parts, by the order of these, so that no parts make it slow.
+    numbers: BTreeMap<Vec<TypeSet>, usize>,
     /// What was answered of names in sets.
-    known: IndexMap<Key, Option<Inside>>,
+    known: Vec<(Key, Option<Inside>)>,
+    /// The place of what was answered of a name in a set, by the order of both, so that no names make it slow.
+    places: BTreeMap<Key, usize>,
     /// How much is kept of both.
     size: u64,
 }
@@ -65,16 +71,6 @@ pub struct Sets {
 /// Whether these are types alone, and few.
 fn are_few_types(sets: &[TypeSet]) -> bool {
     sets.len() <= FEW && sets.iter().all(|set| matches!(set, TypeSet::One { .. }))
-}
-
-/// The size with something more where that is new, and else without it.
-fn chosen(is_new: bool, more: u64, size: u64) -> u64
-    ensures { result ≡ (if is_new then more else size) }
-{
-    if is_new {
-        return more;
-    }
-    size
 }
 
 impl Model for Sets {
@@ -85,9 +81,9 @@ impl Model for Sets {
 
     ghost use Rattle.nif_sets.specs.Kept.{plain_known, IsKept};
 
-    ghost view = { λ a. record { parts = map (λ own. own.items) a.parts.keys; known = map plain_known a.known.entries } };
+    ghost view = { λ a. record { parts = map (λ own. own.items) a.parts.items; known = map plain_known a.known.items } };
 
-    ghost invariant = { λ a. IsKept (map (λ own. own.items) a.parts.keys) (map plain_known a.known.entries) a.size };
+    ghost invariant = { λ a. IsKept (map (λ own. own.items) a.parts.items) (map plain_known a.known.items) a.size };
 }
 
 impl Sets {
@@ -98,8 +94,10 @@ impl Sets {
     {
         Sets {
             alloc,
-            parts: IndexSet::new(alloc),
-            known: IndexMap::new(alloc),
+            parts: Vec::new(alloc),
+            numbers: BTreeMap::new(alloc),
+            known: Vec::new(alloc),
+            places: BTreeMap::new(alloc),
             size: 0,
         }
     }
@@ -267,29 +265,44 @@ impl Sets {
         }
     }
 
-    /// What is known of a name in a set, if something is.
+    /// What is known of a name in a set, if something is; it may be forgotten.
     fn find(&self, key: &Key) -> Option<Option<Inside>>
         ensures within { IfSome result (IsWithin self.now) }
         ensures known { IfSome result (λ answer. Contains self.now.known (plain_known (key.now, answer))) }
     {
-        self.known.get(key).copied()
+        let place = *self.places.get(key)?;
+        let kept = self.known.get(place)?;
+        if kept.0.set == key.set {
+            if kept.0.name.as_slice() == key.name.as_slice() {
+                return Some(kept.1);
+            }
+        }
+        None
     }
 
-    /// Keeps an answer, and gives it back.
+    /// Keeps an answer, and gives it back; after want of memory the sets are as before.
     fn note(&mut self, key: Key, answer: Option<Inside>) -> Result<Option<Inside>, NoMemory>
         requires set { IsSet self.old key.set }
         requires within { IsWithin self.old answer }
         ensures same { IfOk result (λ given. given ≡ answer) }
         ensures parts { self.new.parts ≡ self.old.parts }
         ensures known { OnOk result ((known : Known) → Contains self.new.known known → Contains self.old.known known ⊎ (known ≡ plain_known (key, answer))) }
+        ensures err { OnErr result (self.new ≡ self.old) }
     {
         let Some(size) = self.size.checked_add(key.name.len() as u64 + 1) else {
             return Err(NoMemory);
         };
-        let Ok(before) = self.known.insert(key, answer) else {
+        let Ok(name) = Vec::from_slice(self.alloc, key.name.as_slice()) else {
             return Err(NoMemory);
         };
-        self.size = chosen(before.is_none(), size, self.size);
+        let same = Key { set: key.set, name };
+        let Ok(_) = self.places.insert(same, self.known.len()) else {
+            return Err(NoMemory);
+        };
+        let Ok(()) = self.known.push((key, answer)) else {
+            return Err(NoMemory);
+        };
+        self.size = size;
         Ok(answer)
     }
 
@@ -299,8 +312,7 @@ impl Sets {
         ensures before { All (IsBelow number) result.now }
         ensures types { types_of self.now (Joined number) ≡ flat_map (types_of self.now) result.now }
     {
-        let own = &self.parts.as_slice()[number as usize];
-        own.as_slice()
+        self.parts[number as usize].as_slice()
     }
 
     /// Puts the types in a set to those that are gathered, if it is kept as its types and these are few.
@@ -370,19 +382,57 @@ impl Sets {
         if sets.len() == 1 {
             return Ok(sets[0]);
         }
+        match self.kept(sets) {
+            Some(set) => Ok(set),
+            None => self.add(sets),
+        }
+    }
+
+    /// A joined set that has these parts, if there is one; it may be forgotten.
+    fn kept(&self, sets: &[TypeSet]) -> Option<TypeSet>
+        ensures within { IfSome result (IsSet self.now) }
+        ensures types { IfSome result (λ set. types_of self.now set ≡ flat_map (types_of self.now) sets.now) }
+    {
+        let place = *self.numbers.get(sets)?;
+        let own = self.parts.get(place)?;
+        let Ok(number) = u32::try_from(place) else {
+            return None;
+        };
+        if own.as_slice() == sets {
+            return Some(TypeSet::Joined { number });
+        }
+        None
+    }
+
+    /// Joins these sets, which are the parts of a new set; after want of memory the sets are as before.
+    fn add(&mut self, sets: &[TypeSet]) -> Result<TypeSet, NoMemory>
+        requires { All (IsSet self.old) sets.now }
+        ensures within { IfOk result (IsSet self.new) }
+        ensures types { IfOk result (λ set. types_of self.new set ≡ flat_map (types_of self.old) sets.now) }
+        ensures grown { OnOk result (IsGrown self.old self.new) }
+        ensures known { OnOk result ((tables : List Table) → AreKnown tables self.old → AreKnown tables self.new) }
+        ensures err { OnErr result (self.new ≡ self.old) }
+    {
         let Some(size) = self.size.checked_add(sets.len() as u64) else {
+            return Err(NoMemory);
+        };
+        let place = self.parts.len();
+        let Ok(number) = u32::try_from(place) else {
             return Err(NoMemory);
         };
         let Ok(own) = Vec::from_slice(self.alloc, sets) else {
             return Err(NoMemory);
         };
-        let Ok((place, is_new)) = self.parts.insert_full(own) else {
+        let Ok(same) = Vec::from_slice(self.alloc, sets) else {
             return Err(NoMemory);
         };
-        self.size = chosen(is_new, size, self.size);
-        let Ok(number) = u32::try_from(place) else {
+        let Ok(_) = self.numbers.insert(same, place) else {
             return Err(NoMemory);
         };
+        let Ok(()) = self.parts.push(own) else {
+            return Err(NoMemory);
+        };
+        self.size = size;
         Ok(TypeSet::Joined { number })
     }
 }

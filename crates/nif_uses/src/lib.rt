@@ -11,5 +11,3 @@ pub use names::named;
 pub use spread::reaching;
 pub use templates::{generic_structs, is_own_template};
 
-#[cfg(test)]
-mod tests;

@@ -2,8 +2,7 @@ use Rattle.std.proofs.Common.{[], ◌∷◌, sym, ap, ◌∙◌}
 use Rattle.nif_schema.specs.Declaration.{field, formula}
 use Rattle.nif_schema.specs.Reasons as spec
 use Rattle.nif_reasons.specs.FieldReasons.{size_reason}
-use Rattle.nif_reasons.proofs.ReasonLemmas.{on, pair-none, pair-some, first-none, width-of}
-use Rattle.nif_paths.proofs.ShapeLemmas.{none_mapped, some_mapped}
+use Rattle.nif_reasons.proofs.ReasonLemmas.{on, none_mapped, some_mapped, pair-none, pair-some, first-none, width-of}
 use Rattle.nif_reasons.proofs.fields.size_reason.Goals as goal
 
 pub returns-in-Ok-Some : goal.returns-in-Ok-Some

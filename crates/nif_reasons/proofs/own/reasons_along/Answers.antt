@@ -7,7 +7,7 @@ use Rattle.nif_schema.specs.declared.faults.Closed.{Closed}
 use Rattle.nif_schema.specs.declared.faults.Closed.TheVariants.{C3}
 use Rattle.nif_reasons.specs.Visits.{AreInOrder, AreVisits}
 use Rattle.nif_reasons.specs.Ways.{last_or}
-use Rattle.nif_reasons.proofs.Lists.{drop-next, set-here, set-other, same-or-other}
+use Rattle.nif_reasons.proofs.Lists.{drop-next, set-here, set-other, same-or-other, drop_past}
 use Rattle.nif_reasons.proofs.OwnLemmas.{own-endless}
 use Rattle.nif_reasons.proofs.VisitLemmas.{contains-none, contains-cases}
 use Rattle.nif_reasons.proofs.own.reasons_along.Goals as goal
@@ -85,16 +85,10 @@ loop-number-preserved c =
       next = subst (λ o. AreInOrder S o rest) (sym c.in-Ok-own_reason.ensures.last) (subst (AreInOrder S (last_or None c.loop-number.way.stack.items)) cut old.next).1;
     }
 
-none-left : (xs : List ℕ) (i : ℕ) → length xs ≤ i → drop i xs ≡ []
-none-left [] zero le = refl
-none-left [] (suc i) le = refl
-none-left (x ∷ xs) zero le = absurd (omega (arith, le))
-none-left (x ∷ xs) (suc i) le = none-left xs i (omega (arith, le))
-
 pub returns : goal.returns
 returns c =
     let i = c.loop-number.invariant in
-    let nothing : drop c.loop-number.number-index c.args.order.now ≡ [] = none-left c.args.order.now c.loop-number.number-index c.loop-number-test.false in
+    let nothing : drop c.loop-number.number-index c.args.order.now ≡ [] = drop_past c.args.order.now c.loop-number.number-index c.loop-number-test.false in
     record {
       count = i.count;
       each = λ k lt. elim (i.each k lt) [ inl told ↦ told | inr waits ↦ absurd (contains-none k (subst (λ l. Contains l k) nothing waits)) ];

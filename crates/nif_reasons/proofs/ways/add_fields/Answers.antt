@@ -3,8 +3,7 @@ use Rattle.std.proofs.lemmas.List.{append_assoc, map-append, take_all}
 use Rattle.nif_schema.specs.Declaration.{field}
 use Rattle.nif_schema.specs.Reasons.{first_reason, field_reason, fields_reason}
 use Rattle.nif_paths.specs.Marks.{IsLine}
-use Rattle.nif_paths.proofs.Lists.{take-next, drop_past}
-use Rattle.nif_reasons.proofs.Lists.{drop-next}
+use Rattle.nif_reasons.proofs.Lists.{take-next, drop-next, drop_past}
 use Rattle.nif_reasons.proofs.ReasonLemmas.{first-moved, first-last}
 use Rattle.nif_reasons.proofs.ways.add_fields.Goals as goal
 

@@ -2,7 +2,7 @@ use Rattle.std.proofs.Common.{◌≡◌, ◌+◌, ◌-◌, ◌∷◌, [], ◌++�
 use Rattle.std.proofs.lemmas.List.{append_assoc, append-nil, map-append}
 use Rattle.nif_schema.specs.Declaration.{field}
 use Rattle.nif_paths.specs.Marks.{IsLine}
-use Rattle.nif_paths.proofs.Lists.{take-next}
+use Rattle.nif_reasons.proofs.Lists.{take-next}
 use Rattle.nif_reasons.proofs.ways.drop_fields.Goals as goal
 
 pub loop-left-preserved : goal.loop-left-preserved
