@@ -1,12 +1,12 @@
 -- Attributes, children and groups as the code meets them.
-use Rattle.std.proofs.Common.{◌≡◌, ℕ, ◌+◌, ◌<◌, ◌≤◌, Bool, true, false, ◌||◌, ◌&&◌, List, [], ◌∷◌, ◌++◌, map, Option, Some, None, length, get_or, take, drop, refl, sym, ap, ◌∙◌, ⊎_elim, add-one, cond, drop-cons, codes, ◌⊎◌, inl, inr}
+use Rattle.std.proofs.Common.{◌≡◌, ℕ, ◌+◌, ◌<◌, ◌≤◌, Bool, true, false, ◌||◌, ◌&&◌, List, [], ◌∷◌, ◌++◌, map, Option, Some, None, length, get_or, take, drop, refl, sym, ap, ◌∙◌, append_assoc, ⊎_elim, add-one, cond, drop-cons, codes, ◌⊎◌, inl, inr}
 use Rattle.std.proofs.lemmas.Bool.{cases_Bool, cond-true, cond-false, false≢true}
 use Rattle.std.proofs.lemmas.List.{take_all, take_more, append-nil, map-append}
 use Rattle.std.proofs.lemmas.List.Elements.{filter-append, filter_map-append}
 use Rattle.std.proofs.lemmas.List.Sums.{fold-append}
 use Rattle.std.proofs.lemmas.Slice.Eq.{bytes_eq-Decides}
 use Rattle.std.proofs.lemmas.List.Folds.{list_any_at}
-use Rattle.nif_attributes.specs.Listing.{ListAlike, GroupsAlike}
+use Rattle.nif_attributes.specs.Listing.{ListAlike, GroupsAlike, Listed, listed_as, lone}
 use Rattle.std.specs.List.{filter, filter_map, cons_option, fold, list_any}
 use Rattle.std.specs.Option.{is_none, is_some, option_map}
 use Rattle.std.specs.Str.{bytes_eq}
@@ -113,18 +113,6 @@ pub refused_nowhere : (group : Tree) (name : List ℕ) (attrs : List (List ℕ �
 refused_nowhere group name attrs kept items i e same h none =
     sym (ap (list_any (λ child. is_none (token_of child))) (children_is group name attrs kept e ∙ sym same ∙ sym (take_all i items h)) ∙ none)
 
-pub one_token : (items : List Tree) (i : ℕ) (child : Tree) (before now : List Token) (token : Token) → i < length items → child ≡ get_or items i child
-    → before ≡ filter_map token_of (take i items) → Some token ≡ token_of child → now ≡ before ++ token ∷ [] → now ≡ filter_map token_of (take (i + 1) items)
-one_token items i child before now token h is e some more =
-    more ∙ ap (λ l. l ++ token ∷ []) e ∙ ap (λ o. filter_map token_of (take i items) ++ cons_option o []) (some ∙ ap token_of is)
-    ∙ sym (filter_map-append token_of (take i items) (get_or items i child ∷ [])) ∙ ap (filter_map token_of) (sym (take_more items i child h))
-
-pub no_token : (items : List Tree) (i : ℕ) (child : Tree) (before : List Token) → i < length items → child ≡ get_or items i child
-    → before ≡ filter_map token_of (take i items) → None ≡ token_of child → before ≡ filter_map token_of (take (i + 1) items)
-no_token items i child before h is e none =
-    e ∙ sym (append-nil _) ∙ ap (λ o. filter_map token_of (take i items) ++ cons_option o []) (none ∙ ap token_of is)
-    ∙ sym (filter_map-append token_of (take i items) (get_or items i child ∷ [])) ∙ ap (filter_map token_of) (sym (take_more items i child h))
-
 pub tokens_is : (tree : Tree) (name : List ℕ) (attrs : List (List ℕ × List ℕ)) (children : List Tree) (tokens : List Token) → Node name attrs (trees children) ≡ tree
     → tokens ≡ filter_map token_of children → tokens ≡ (group_of tree).tokens
 tokens_is tree name attrs children tokens e is = is ∙ ap (filter_map token_of) (sym (children_is tree name attrs children e))
@@ -146,14 +134,6 @@ filter_no test items i d before h e none =
 pass_alike : (g h : Group) → ListAlike g.names h.names → g.tokens ≡ h.tokens → (a : Attribute) (text : Expanded) → pass_group (name_of_attribute a) text g ≡ pass_group (name_of_attribute a) text h
 pass_alike g h names tokens a text = λ i. cond (names a i) (fold pass text (tokens i)) text
 
-cond_same : {A : Type 0} (b : Bool) (x : A) → cond b x x ≡ x
-cond_same true x = refl
-cond_same false x = refl
-
-pass_idle : (g : Group) → (g.names ≡ []) ⊎ (g.tokens ≡ []) → (name : List ℕ) (text : Expanded) → pass_group name text g ≡ text
-pass_idle g (inl e) name text = ap (λ l. cond (list_any (bytes_eq name) l) (fold pass text g.tokens) text) e
-pass_idle g (inr e) name text = ap (λ l. cond (list_any (bytes_eq name) g.names) (fold pass text l) text) e ∙ cond_same (list_any (bytes_eq name) g.names) text
-
 one_group : (child : Tree) → bytes_eq (name_of child) (codes "token") ≡ true → groups_of (child ∷ []) ≡ group_of child ∷ []
 one_group child e = ap (map group_of) (cond-true _ _ _ e)
 
@@ -167,14 +147,6 @@ alike_pushed child g one now others is names tokens more alike a text =
     let n = name_of_attribute a in
     ap (fold (pass_group n) text) more ∙ fold_last n text one g ∙ pass_alike g (group_of child) names tokens a _
     ∙ ap (λ t. pass_group n t (group_of child)) (alike a text) ∙ sym (fold_last n text others (group_of child))
-    ∙ ap (λ l. fold (pass_group n) text (others ++ l)) (sym (one_group child is))
-
-pub alike_idle : (child : Tree) (g : Group) (one others : List Group) → bytes_eq (name_of child) (codes "token") ≡ true
-    → ListAlike g.names (group_of child).names → g.tokens ≡ (group_of child).tokens → (g.names ≡ []) ⊎ (g.tokens ≡ [])
-    → GroupsAlike one others → GroupsAlike one (others ++ groups_of (child ∷ []))
-alike_idle child g one others is names tokens idle alike a text =
-    let n = name_of_attribute a in
-    alike a text ∙ sym (pass_idle g idle n _) ∙ pass_alike g (group_of child) names tokens a _ ∙ sym (fold_last n text others (group_of child))
     ∙ ap (λ l. fold (pass_group n) text (others ++ l)) (sym (one_group child is))
 
 pub alike_no_group : (child : Tree) (one others : List Group) → bytes_eq (name_of child) (codes "token") ≡ false
@@ -194,3 +166,68 @@ pub alike_all : (root : Tree) (name : List ℕ) (attrs : List (List ℕ × List 
 alike_all root name attrs kept items i groups e same h alike a text =
     alike a (record { text = text; too_long = false })
     ∙ ap (λ l. expanded (groups_of l) (name_of_attribute a) text) (take_all i items h ∙ same ∙ sym (children_is root name attrs kept e))
+
+-- the tokens of one more child
+tokens_more : (items : List Tree) (i : ℕ) (child : Tree) → i < length items → child ≡ get_or items i child
+    → filter_map token_of (take (i + 1) items) ≡ filter_map token_of (take i items) ++ cons_option (token_of child) []
+tokens_more items i child h is =
+    ap (filter_map token_of) (take_more items i child h) ∙ filter_map-append token_of (take i items) (get_or items i child ∷ [])
+    ∙ ap (λ t. filter_map token_of (take i items) ++ cons_option (token_of t) []) (sym is)
+
+pub listed_more : (names : List (List ℕ)) (items : List Tree) (i : ℕ) (child : Tree) (start before now : List Listed) (by : Listed) → i < length items → child ≡ get_or items i child
+    → before ≡ start ++ map (listed_as names) (filter_map token_of (take i items)) → Some by ≡ option_map (listed_as names) (token_of child) → now ≡ before ++ by ∷ []
+    → now ≡ start ++ map (listed_as names) (filter_map token_of (take (i + 1) items))
+listed_more names items i child start before now by h is e some more =
+    more ∙ ap (λ l. l ++ by ∷ []) e ∙ append_assoc start (map (listed_as names) (filter_map token_of (take i items))) (by ∷ [])
+    ∙ ap (λ l. start ++ l) (one_more (token_of child) some ∙ ap (map (listed_as names)) (sym (tokens_more items i child h is)))
+  where
+    one_more : (o : Option Token) → Some by ≡ option_map (listed_as names) o
+        → map (listed_as names) (filter_map token_of (take i items)) ++ by ∷ [] ≡ map (listed_as names) (filter_map token_of (take i items) ++ cons_option o [])
+    one_more None q = absurd (cc)
+    one_more (Some t) q =
+        let same : by ≡ listed_as names t = cc in
+        ap (λ b. map (listed_as names) (filter_map token_of (take i items)) ++ b ∷ []) same ∙ sym (map-append (listed_as names) (filter_map token_of (take i items)) (t ∷ []))
+
+pub listed_same : (names : List (List ℕ)) (items : List Tree) (i : ℕ) (child : Tree) (start before : List Listed) → i < length items → child ≡ get_or items i child
+    → before ≡ start ++ map (listed_as names) (filter_map token_of (take i items)) → None ≡ option_map (listed_as names) (token_of child)
+    → before ≡ start ++ map (listed_as names) (filter_map token_of (take (i + 1) items))
+listed_same names items i child start before h is e none =
+    e ∙ ap (λ l. start ++ map (listed_as names) l) (no_more (token_of child) none ∙ sym (tokens_more items i child h is))
+  where
+    no_more : (o : Option Token) → None ≡ option_map (listed_as names) o → filter_map token_of (take i items) ≡ filter_map token_of (take i items) ++ cons_option o []
+    no_more None q = sym (append-nil _)
+    no_more (Some t) q = absurd (cc)
+
+-- groups of one token each do what the group of them all does
+lone_in : (name : List ℕ) (names : List (List ℕ)) (tokens : List Token) (text : Expanded) → list_any (bytes_eq name) names ≡ true
+    → fold (pass_group name) text (map lone (map (listed_as names) tokens)) ≡ fold pass text tokens
+lone_in name names [] text e = refl
+lone_in name names (t ∷ tokens) text e =
+    ap (λ x. fold (pass_group name) x (map lone (map (listed_as names) tokens))) (cond-true _ (pass text t) text e) ∙ lone_in name names tokens (pass text t) e
+
+lone_out : (name : List ℕ) (names : List (List ℕ)) (tokens : List Token) (text : Expanded) → list_any (bytes_eq name) names ≡ false
+    → fold (pass_group name) text (map lone (map (listed_as names) tokens)) ≡ text
+lone_out name names [] text e = refl
+lone_out name names (t ∷ tokens) text e =
+    ap (λ x. fold (pass_group name) x (map lone (map (listed_as names) tokens))) (cond-false _ (pass text t) text e) ∙ lone_out name names tokens text e
+
+lone_all : (name : List ℕ) (names : List (List ℕ)) (tokens : List Token) (text : Expanded)
+    → fold (pass_group name) text (map lone (map (listed_as names) tokens)) ≡ pass_group name text (record { names = names; tokens = tokens })
+lone_all name names tokens text =
+    ⊎_elim
+    (λ e. lone_in name names tokens text e ∙ sym (cond-true _ (fold pass text tokens) text e))
+    (λ e. lone_out name names tokens text e ∙ sym (cond-false _ (fold pass text tokens) text e))
+    (cases_Bool (list_any (bytes_eq name) names))
+
+pub alike_tokens : (child : Tree) (names : List (List ℕ)) (tokens : List Token) (old now : List Listed) (others : List Group) → bytes_eq (name_of child) (codes "token") ≡ true
+    → ListAlike names (group_of child).names → tokens ≡ (group_of child).tokens → now ≡ old ++ map (listed_as names) tokens
+    → GroupsAlike (map lone old) others → GroupsAlike (map lone now) (others ++ groups_of (child ∷ []))
+alike_tokens child names tokens old now others is same all more alike a text =
+    let n = name_of_attribute a in
+    let g : Group = record { names = names; tokens = tokens } in
+    ap (λ l. fold (pass_group n) text (map lone l)) more
+    ∙ ap (fold (pass_group n) text) (map-append lone old (map (listed_as names) tokens))
+    ∙ fold-append (pass_group n) text (map lone old) (map lone (map (listed_as names) tokens))
+    ∙ lone_all n names tokens (fold (pass_group n) text (map lone old))
+    ∙ sym (fold_last n text (map lone old) g)
+    ∙ alike_pushed child g (map lone old) (map lone old ++ g ∷ []) others is same all refl alike a text

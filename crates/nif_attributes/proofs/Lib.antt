@@ -2,3 +2,4 @@ pub mod Replacing
 pub mod Groups
 pub mod Decimals
 pub mod LeafLemmas
+pub mod Finding

@@ -3,3 +3,5 @@ pub mod Listing
 pub mod Attributes
 pub mod Texts
 pub mod Leaves
+pub mod Finding
+pub mod Kept

@@ -1,5 +1,5 @@
 -- What parts of the code say.
-use Rattle.std.specs.Prelude.{ℕ, ◌≡◌, List}
+use Rattle.std.specs.Prelude.{ℕ, ◌≡◌, List, [], ◌∷◌}
 use Rattle.std.specs.List.{fold, list_any}
 use Rattle.std.specs.Str.{bytes_eq}
 use Rattle.std.specs.Borrow.{Bor}
@@ -19,3 +19,18 @@ ListAlike one other = (attribute : Attribute) → list_any (bytes_eq (name_of_at
 abbrev pub GroupsAlike : List Group → List Group → Type 0
 GroupsAlike one other =
     (attribute : Attribute) (text : Expanded) → fold (pass_group (name_of_attribute attribute)) text one ≡ fold (pass_group (name_of_attribute attribute)) text other
+
+-- a token, and the names of attributes of fields in which it is
+pub record Listed : Type 0 where
+  pub names : List (List ℕ)
+  pub by : Token
+
+abbrev pub listed_as : List (List ℕ) → Token → Listed
+listed_as names by = record { names = names; by = by }
+
+-- a group of one token
+abbrev pub lone : Listed → Group
+lone one = record { names = one.names; tokens = one.by ∷ [] }
+
+abbrev pub text_of : Listed → List ℕ
+text_of one = one.by.token

@@ -5,6 +5,7 @@
 #![tactic(auto)]
 
 pub mod attributes;
+mod index;
 pub mod leaves;
 pub mod numbers;
 pub mod texts;

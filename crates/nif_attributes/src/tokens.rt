@@ -1,6 +1,6 @@
 //! Token groups: texts that stand for others in the attributes of fields.
 ghost use Rattle.std.specs.Prelude.{◌≡◌, ℕ, ◌+◌, ◌<◌, ◌≤◌, Bool, true, false, IsTrue, ◌⊎◌, List, [], ◌∷◌, ◌++◌, length, map, codes, Option, IfOk, OnOk, MatchOption, vec_len};
-ghost use Rattle.std.specs.List.{list_any, filter_map, slice_split};
+ghost use Rattle.std.specs.List.{list_any, filter_map, slice_split, slice_get};
 ghost use Rattle.std.specs.Option.{option_map, is_none};
 ghost use Rattle.std.specs.Str.{bytes_eq};
 ghost use Rattle.nif_text.specs.Tree.{name_of, attrs_of, children_of};
@@ -8,6 +8,7 @@ ghost use Rattle.nif_text.specs.Bytes.{is_blank};
 ghost use Rattle.nif_attributes.specs.Tokens.{Group, value_of, token_of, groups_of, has_refused, names_in, replaced, name_of_attribute};
 ghost use Rattle.nif_attributes.specs.Listing.{parts_token, ListAlike, GroupsAlike};
 
+use crate::index::TokenIndex;
 use memchr::memmem;
 use nif_base::{NoMemory, Word};
 use nif_text::{Attrs, Element};
@@ -88,55 +89,52 @@ impl Attribute {
     }
 }
 
-/// A token and the string that it is replaced by.
+/// A token, the string that it is replaced by, and the attributes of fields in which it is.
 #[derive(Drop)]
 struct Replacement {
+    attributes: Vec<Attribute>,
     token: Word,
     string: Word,
 }
 
 impl Model for Replacement {
-    ghost use Rattle.std.specs.Prelude.{ℕ, ◌<◌, length};
-    ghost use Rattle.nif_attributes.specs.Tokens.{Token};
+    ghost use Rattle.std.specs.Prelude.{ℕ, ◌<◌, length, map};
+    ghost use Rattle.nif_attributes.specs.Tokens.{name_of_attribute};
+    ghost use Rattle.nif_attributes.specs.Listing.{Listed};
 
-    ghost Value = { Token };
+    ghost Value = { Listed };
 
-    ghost view = { λ a. record { token = a.token; string = a.string } };
+    ghost view = { λ a. record { names = map name_of_attribute a.attributes.items; by = record { token = a.token; string = a.string } } };
 
     ghost invariant = { λ a. 0 < length a.token };
 }
 
-/// The tokens of a group, and the attributes of fields that it lists.
-#[derive(Drop)]
-struct TokenGroup {
-    attributes: Vec<Attribute>,
-    tokens: Vec<Replacement>,
-}
-
-impl Model for TokenGroup {
-    ghost use Rattle.std.specs.Prelude.{map};
-    ghost use Rattle.nif_attributes.specs.Tokens.{Group, name_of_attribute};
-
-    ghost Value = { Group };
-
-    ghost view = { λ a. record { names = map name_of_attribute a.attributes.items; tokens = a.tokens.items } };
-}
-
-/// The token groups of a schema text. Groups without tokens and groups that list no attribute of fields are left
-/// out, and of the names that a group lists those of attributes of fields are kept: contracts see the list of groups
-/// that is left.
+/// The tokens of a schema text, in their order. Tokens of groups that list no attribute of fields are left out, and of
+/// the names that a group lists those of attributes of fields are kept: contracts see a list of groups of one token.
 #[derive(Drop)]
 pub struct Tokens {
-    groups: Vec<TokenGroup>,
+    items: Vec<Replacement>,
+    index: TokenIndex,
 }
 
 impl Model for Tokens {
-    ghost use Rattle.std.specs.Prelude.{List};
+    ghost use Rattle.std.specs.Prelude.{List, map};
     ghost use Rattle.nif_attributes.specs.Tokens.{Group};
+    ghost use Rattle.nif_attributes.specs.Listing.{lone, text_of};
+    ghost use Rattle.nif_attributes.specs.Finding.{IsIndex};
 
     ghost Value = { List Group };
 
-    ghost view = { λ a. a.groups.items };
+    ghost view = { λ a. map lone a.items.items };
+
+    ghost invariant = { λ a. IsIndex a.index (map text_of a.items.items) };
+}
+
+/// Tokens that are gathered.
+#[derive(Drop)]
+struct Gathered {
+    items: Vec<Replacement>,
+    index: TokenIndex,
 }
 
 /// The value of the attribute of this name.
@@ -246,23 +244,47 @@ fn replace(
 }
 
 impl Replacement {
-    ghost use Rattle.nif_attributes.specs.Tokens.{pass};
+    ghost use Rattle.nif_attributes.specs.Tokens.{pass, pass_group, name_of_attribute};
+    ghost use Rattle.nif_attributes.specs.Listing.{lone, listed_as};
 
-    /// The replacement of a child of a group, none where it is refused.
-    fn of(alloc: Global, child: &Element) -> Result<Option<Replacement>, NoMemory>
-        ensures { IfOk result (λ by. by ≡ token_of child.now) }
+    /// The replacement of a child of a group that lists these attributes, none where it is refused.
+    fn of(
+        alloc: Global,
+        attributes: &[Attribute],
+        child: &Element,
+    ) -> Result<Option<Replacement>, NoMemory>
+        ensures { IfOk result (λ by. by ≡ option_map (listed_as (map name_of_attribute attributes.now)) (token_of child.now)) }
     {
         let Some((token, string)) = parts(child) else {
             return Ok(None);
         };
         let token = Word::from_bytes(alloc, token)?;
         let string = Word::from_bytes(alloc, string)?;
-        Ok(Some(Replacement { token, string }))
+        match Vec::from_slice(alloc, attributes) {
+            Ok(attributes) => Ok(Some(Replacement {
+                attributes,
+                token,
+                string,
+            })),
+            Err(_) => Err(NoMemory),
+        }
     }
 
-    /// One pass over a text.
-    fn pass(&self, alloc: Global, text: &mut Expanded) -> Result<(), NoMemory>
-        ensures { OnOk result (text.new ≡ pass text.old self.now) }
+    /// Whether it is in this attribute.
+    fn lists(&self, attribute: Attribute) -> bool
+        ensures { result ≡ list_any (bytes_eq (name_of_attribute attribute)) self.now.names }
+    {
+        for other in &self.attributes {
+            if attribute.name() == other.name() {
+                return true;
+            }
+        }
+        false
+    }
+
+    /// One pass over a text, whatever the attribute.
+    fn replace_in(&self, alloc: Global, text: &mut Expanded) -> Result<(), NoMemory>
+        ensures { OnOk result (text.new ≡ pass text.old self.now.by) }
     {
         if text.too_long {
             return Ok(());
@@ -278,49 +300,13 @@ impl Replacement {
         }
         Ok(())
     }
-}
 
-impl TokenGroup {
-    ghost use Rattle.nif_attributes.specs.Tokens.{pass_group, group_of, name_of_attribute};
-
-    /// The group of an element: of the names that it lists those of attributes of fields.
-    fn of(alloc: Global, element: &Element) -> Result<TokenGroup, NoMemory>
-        ensures attributes { IfOk result (λ group. ListAlike group.names (group_of element.now).names) }
-        ensures tokens { IfOk result (λ group. group.tokens ≡ (group_of element.now).tokens) }
-    {
-        Ok(TokenGroup {
-            attributes: listed(alloc, value(&element.attrs, b"attrs"))?,
-            tokens: replacements(alloc, element.children.as_slice())?,
-        })
-    }
-
-    /// Whether it lists this attribute.
-    fn lists(&self, attribute: Attribute) -> bool
-        ensures { result ≡ list_any (bytes_eq (name_of_attribute attribute)) self.now.names }
-    {
-        for other in &self.attributes {
-            if attribute.name() == other.name() {
-                return true;
-            }
-        }
-        false
-    }
-
-    /// Whether it changes no text of an attribute of fields.
-    fn is_idle(&self) -> bool
-        ensures { result ≡ true → (self.now.names ≡ []) ⊎ (self.now.tokens ≡ []) }
-    {
-        self.attributes.is_empty() || self.tokens.is_empty()
-    }
-
-    /// The passes by all tokens, where it lists the attribute.
+    /// The pass over a text of an attribute, where it is in that.
     fn pass(&self, alloc: Global, attribute: Attribute, text: &mut Expanded) -> Result<(), NoMemory>
-        ensures { OnOk result (text.new ≡ pass_group (name_of_attribute attribute) text.old self.now) }
+        ensures { OnOk result (text.new ≡ pass_group (name_of_attribute attribute) text.old (lone self.now)) }
     {
         if self.lists(attribute) {
-            for by in &self.tokens {
-                by.pass(alloc, text)?;
-            }
+            self.replace_in(alloc, text)?;
         }
         Ok(())
     }
@@ -342,19 +328,6 @@ fn listed(alloc: Global, attrs: Option<&[u8]>) -> Result<Vec<Attribute>, NoMemor
     Ok(attributes)
 }
 
-/// The replacements of the children that are not refused.
-fn replacements(alloc: Global, children: &[Element]) -> Result<Vec<Replacement>, NoMemory>
-    ensures { IfOk result (λ tokens. tokens.items ≡ filter_map token_of children.now) }
-{
-    let mut tokens = Vec::new(alloc);
-    for child in children {
-        if let Some(by) = Replacement::of(alloc, child)? {
-            push(&mut tokens, by)?;
-        }
-    }
-    Ok(tokens)
-}
-
 /// Whether a child of the root is a token group.
 fn is_group(child: &Element) -> bool
     ensures { result ≡ bytes_eq (name_of child.now) (codes "token") }
@@ -362,38 +335,99 @@ fn is_group(child: &Element) -> bool
     child.name.bytes() == b"token".as_slice()
 }
 
-/// Puts the group of a child of the root behind the others, unless the child is no group or changes no text.
-fn add_group(alloc: Global, groups: &mut Vec<TokenGroup>, child: &Element) -> Result<(), NoMemory>
-    ensures { OnOk result ((others : List Group) → GroupsAlike groups.old.items others → GroupsAlike groups.new.items (others ++ groups_of (child.now ∷ []))) }
-{
-    if !is_group(child) {
-        return Ok(());
+impl Gathered {
+    ghost use Rattle.std.specs.Prelude.{map};
+    ghost use Rattle.nif_attributes.specs.Tokens.{name_of_attribute};
+    ghost use Rattle.nif_attributes.specs.Listing.{lone, listed_as};
+    ghost use Rattle.nif_attributes.specs.Kept.{IsGathered};
+
+    /// Puts a replacement behind the others.
+    fn push(&mut self, alloc: Global, by: Replacement) -> Result<(), NoMemory>
+        ensures items { OnOk result (self.new.items.items ≡ self.old.items.items ++ by ∷ []) }
+        ensures index { OnOk result (IsGathered self.old → IsGathered self.new) }
+    {
+        self.index.put(alloc, self.items.len(), by.token.bytes())?;
+        push(&mut self.items, by)
     }
-    let group = TokenGroup::of(alloc, child)?;
-    if group.is_idle() {
-        return Ok(());
+
+    /// Puts the tokens of the children that are not refused behind the others.
+    fn add_tokens(
+        &mut self,
+        alloc: Global,
+        attributes: &[Attribute],
+        children: &[Element],
+    ) -> Result<(), NoMemory>
+        ensures items { OnOk result (self.new.items.items ≡ self.old.items.items
+            ++ map (listed_as (map name_of_attribute attributes.now)) (filter_map token_of children.now)) }
+        ensures index { OnOk result (IsGathered self.old → IsGathered self.new) }
+    {
+        for child in children {
+            if let Some(by) = Replacement::of(alloc, attributes, child)? {
+                self.push(alloc, by)?;
+            }
+        }
+        Ok(())
     }
-    push(groups, group)?;
-    Ok(())
+
+    /// Puts the tokens of a child of the root behind the others, where it is a group and lists an attribute of fields.
+    fn add_group(&mut self, alloc: Global, child: &Element) -> Result<(), NoMemory>
+        ensures groups { OnOk result ((others : List Group) → GroupsAlike (map lone self.old.items.items) others
+            → GroupsAlike (map lone self.new.items.items) (others ++ groups_of (child.now ∷ []))) }
+        ensures index { OnOk result (IsGathered self.old → IsGathered self.new) }
+    {
+        if !is_group(child) {
+            return Ok(());
+        }
+        let attributes = listed(alloc, value(&child.attrs, b"attrs"))?;
+        self.add_tokens(alloc, attributes.as_slice(), child.children.as_slice())
+    }
 }
 
 impl Tokens {
-    ghost use Rattle.nif_attributes.specs.Tokens.{ExpandAlike, expanded, name_of_attribute};
+    ghost use Rattle.nif_attributes.specs.Tokens.{ExpandAlike, expanded, pass_group, name_of_attribute};
 
     /// The token groups of a schema text, from its root: whatever the groups among the children of the root make of a
     /// text of an attribute of fields, these make of it.
     pub fn of(alloc: Global, root: &Element) -> Result<Tokens, NoMemory>
         ensures { IfOk result (λ tokens. ExpandAlike tokens (groups_of (children_of root.now))) }
     {
-        let mut groups = Vec::new(alloc);
+        let mut gathered = Gathered {
+            items: Vec::new(alloc),
+            index: TokenIndex::new(alloc),
+        };
         for child in &root.children {
-            add_group(alloc, &mut groups, child)?;
+            gathered.add_group(alloc, child)?;
         }
-        Ok(Tokens { groups })
+        Ok(Tokens {
+            items: gathered.items,
+            index: gathered.index,
+        })
+    }
+
+    /// The place of a token, from `at` on, in front of which no token changes this text. Where there are `tries` left
+    /// the tokens are tried one by one.
+    fn place(&self, tries: usize, at: usize, text: &Expanded) -> usize
+        requires { at ≤ length self.now }
+        ensures low { at ≤ result }
+        ensures high { result ≤ length self.now }
+        ensures idle { (name : List ℕ) (n : ℕ) (group : Group) → at ≤ n → n < result → slice_get self.now n ≡ Some group
+            → pass_group name text.now group ≡ text.now }
+    {
+        let bytes = text.text.bytes();
+        if tries > 0 || bytes.len() > LIMIT {
+            return at;
+        }
+        self.index.next(bytes, at, self.items.len())
+    }
+
+    /// How many tokens are tried one by one before the next is looked for.
+    fn tries(&self, text: &Expanded) -> usize {
+        self.index.cost(text.text.bytes()) / 4 + 16
     }
 
     /// The text of an attribute of a field after the passes of all groups that list it, in the order of the schema
     /// text. A text that no group lists is copied as it is. The time of a pass is linear in the text and the token.
+    /// Tokens that don't occur in the text are passed over together.
     pub fn expand(
         &self,
         alloc: Global,
@@ -406,8 +440,20 @@ impl Tokens {
             text: Word::from_bytes(alloc, text)?,
             too_long: false,
         };
-        for group in &self.groups {
-            group.pass(alloc, attribute, &mut out)?;
+        let mut at = 0;
+        let mut tries = self.tries(&out);
+        while at < self.items.len() {
+            let place = self.place(tries, at, &out);
+            if place >= self.items.len() {
+                return Ok(out);
+            }
+            self.items[place].pass(alloc, attribute, &mut out)?;
+            at = place + 1;
+            tries = if tries > 0 {
+                tries - 1
+            } else {
+                self.tries(&out)
+            };
         }
         Ok(out)
     }

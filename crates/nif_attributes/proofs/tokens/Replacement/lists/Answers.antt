@@ -3,7 +3,7 @@ use Rattle.std.specs.Str.{bytes_eq}
 use Rattle.nif_attributes.specs.declared.tokens.Attribute.TheVariants as the
 use Rattle.nif_attributes.specs.Tokens.{name_of_attribute}
 use Rattle.nif_attributes.proofs.Groups.{lists_found}
-use Rattle.nif_attributes.proofs.tokens.TokenGroup.lists.Goals as goal
+use Rattle.nif_attributes.proofs.tokens.Replacement.lists.Goals as goal
 
 pub returns-then-eq : goal.returns-then-eq
 returns-then-eq c =
