@@ -356,8 +356,11 @@ impl Reader {
         }
     }
 
-    /// The case that was read, if there is one.
+    /// The case that was read, if there is one. A form has to be at its end.
     pub fn finish(&mut self) -> Result<Option<Case>, Trouble> {
+        if self.in_form {
+            return Err(Trouble::BadLine);
+        }
         self.settle()?;
         Ok(self.case.take())
     }
