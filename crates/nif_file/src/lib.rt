@@ -3,7 +3,7 @@
 //! promises, as a law over the definitions, that bytes spell one file or have one first fault; that a header is read to
 //! the tree that it spells, or its first fault is answered; and that what is written of the parts of a file is its
 //! bytes, or a prefix of them where a write failed. The blocks and the footer behind a header are read above, in
-//! `nif_reader`.
+//! `nif_file_reader`.
 #![tactic(auto)]
 
 pub mod encode;

@@ -10,7 +10,7 @@ use Rattle.nif_file.specs.declared.faults.FileFault.{FileFault}
 use Rattle.nif_file.specs.declared.faults.FileFault.TheVariants as file_faults
 use Rattle.nif_file.specs.FileFails.{FileFails}
 use Rattle.nif_file.specs.Files.{text_of}
-use Rattle.nif_reader.specs.Answers.{HasFault, HasFile, ReadsFile}
+use Rattle.nif_file_reader.specs.Answers.{HasFault, HasFile, ReadsFile}
 use Rattle.nif_tool.specs.Meaning.{files_of, CanFail}
 use Rattle.nif_tool.specs.Refusals.{IsFailure}
 use Rattle.nif_tool.specs.Steps.{IsLoaded, Loads}

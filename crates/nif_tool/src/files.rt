@@ -17,7 +17,7 @@ use nif_base::{Failed, Kind, Shelf, WriteFault};
 use nif_check::Checked;
 use nif_file::{FileFault, encode_file};
 use nif_graph::GraphParts;
-use nif_reader::decode_file;
+use nif_file_reader::decode_file;
 use std::alloc::Global;
 
 /// A file that was read, and the schema by which it was.
