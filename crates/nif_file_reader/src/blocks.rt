@@ -15,7 +15,7 @@ ghost use Rattle.nif_file_reader.specs.Halting.{Halts};
 ghost use Rattle.nif_lists.specs.Lists.{entry_of};
 ghost use Rattle.nif_file_reader.specs.Known.{HasBlock, HasBlocks, Knows, ReadsValue, size_fault};
 
-use crate::types::{Setting, read_type};
+use crate::types::{Preamble, read_type};
 use nif_base::{NoMemory, Order, Source};
 use nif_decode::{Bounds, decode_value, take_number};
 use nif_file::{FileFault, has_zero_word, of_value};
@@ -67,7 +67,7 @@ fn read_zero_word<S: Source>(
 /// Reads the value of a block.
 fn read_value<S: Source>(
     alloc: Global,
-    at: &Setting<'_>,
+    at: &Preamble<'_>,
     kind: u32,
     taker: &mut Taker<'_, S>,
     store: &mut Store,
@@ -111,7 +111,7 @@ fn size_refusal(lists: &Lists, block: u32, used: u32) -> Option<FileFault>
 /// Reads a block: what names its type, the zero word, and its value.
 fn read_block<S: Source>(
     alloc: Global,
-    at: &Setting<'_>,
+    at: &Preamble<'_>,
     block: u32,
     taker: &mut Taker<'_, S>,
     store: &mut Store,
@@ -157,7 +157,7 @@ fn read_block<S: Source>(
 /// Reads all blocks of the file.
 pub(crate) fn read_blocks<S: Source>(
     alloc: Global,
-    at: &Setting<'_>,
+    at: &Preamble<'_>,
     taker: &mut Taker<'_, S>,
     store: &mut Store,
     bounds: &mut Bounds,

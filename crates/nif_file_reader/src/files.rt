@@ -16,7 +16,7 @@ ghost use Rattle.nif_file_reader.specs.Known.{HasRest, Knows, ReadsFooter};
 ghost use Rattle.nif_file_reader.specs.Answers.{GetsFile, ReadsFile};
 
 use crate::blocks::read_blocks;
-use crate::types::Setting;
+use crate::types::Preamble;
 use nif_base::{NoMemory, Source};
 use nif_check::Checked;
 use nif_decode::{Bounds, decode_value};
@@ -30,7 +30,7 @@ use std::alloc::Global;
 /// Reads the footer.
 fn read_footer<S: Source>(
     alloc: Global,
-    at: &Setting<'_>,
+    at: &Preamble<'_>,
     taker: &mut Taker<'_, S>,
     store: &mut Store,
     bounds: &mut Bounds,
@@ -78,7 +78,7 @@ fn end_file<S: Source>(taker: &mut Taker<'_, S>) -> Result<(), FileFault>
 /// Reads all that stands behind the header: the blocks, the footer, and nothing more.
 fn read_rest<S: Source>(
     alloc: Global,
-    at: &Setting<'_>,
+    at: &Preamble<'_>,
     taker: &mut Taker<'_, S>,
     store: &mut Store,
     bounds: &mut Bounds,
@@ -132,7 +132,7 @@ fn read_parts<S: Source>(
         Ok(lists) => lists,
         Err(NoMemory) => return Err(FileFault::NoMemory),
     };
-    let at = Setting {
+    let at = Preamble {
         checked,
         header: &header,
         lists: &lists,

@@ -24,7 +24,7 @@ use std::alloc::Global;
 
 /// What decides how the blocks are read: the schema, the header that was read, and its lists.
 #[derive(Drop, Clone, Copy)]
-pub(crate) struct Setting<'a> {
+pub(crate) struct Preamble<'a> {
     pub(crate) checked: &'a Checked,
     pub(crate) header: &'a Header,
     pub(crate) lists: &'a Lists,
@@ -75,7 +75,7 @@ fn kind_of_name(alloc: Global, checked: &Checked, block: u32, name: &[u8]) -> Re
 /// The fault of a block whose entry of the types names no block type.
 fn unknown_entry(
     alloc: Global,
-    at: &Setting<'_>,
+    at: &Preamble<'_>,
     store: &Store,
     block: u32,
     entry: u32,
@@ -92,7 +92,7 @@ fn unknown_entry(
 /// The block type that the index word of a block names, where it may be that of a block.
 fn kind_of_entry(
     alloc: Global,
-    at: &Setting<'_>,
+    at: &Preamble<'_>,
     store: &Store,
     block: u32,
     word: u16,
@@ -117,7 +117,7 @@ fn kind_of_entry(
 /// Reads the name that stands before a block, and answers the block type of that name.
 fn read_name<S: Source>(
     alloc: Global,
-    at: &Setting<'_>,
+    at: &Preamble<'_>,
     block: u32,
     taker: &mut Taker<'_, S>,
 ) -> Result<u32, FileFault>
@@ -136,7 +136,7 @@ fn read_name<S: Source>(
 /// Reads what names the type of a block, and answers that type.
 pub(crate) fn read_type<S: Source>(
     alloc: Global,
-    at: &Setting<'_>,
+    at: &Preamble<'_>,
     store: &Store,
     block: u32,
     taker: &mut Taker<'_, S>,

@@ -37,8 +37,10 @@ fn reason_number(reason: Closed) -> u64
 #[tactic(auto, using(nif_stream::specs::PutterLaws::puts))]
 fn put_two<K: Sink>(first: u8, second: u8, out: &mut Putter<'_, K>) -> Result<(), WriteFault>
     requires { IsSound out.old }
-    ensures ok { OnOk result (Puts K.grew K.write_faults out.old (decimal first ++ (codes "." ++ decimal second)) out.new) }
-    ensures err { OnErr result (Fails K.grew K.write_faults out.old (decimal first ++ (codes "." ++ decimal second)) out.new) }
+    ensures ok { OnOk result (Puts K.grew K.write_faults out.old
+        (decimal first ++ (codes "." ++ decimal second)) out.new) }
+    ensures err { OnErr result (Fails K.grew K.write_faults out.old
+        (decimal first ++ (codes "." ++ decimal second)) out.new) }
 {
     put_decimal(first as u64, out)?;
     put_counted(b".", second as u64, out)
@@ -113,8 +115,10 @@ fn put_found<K: Sink>(
     out: &mut Putter<'_, K>,
 ) -> Result<(), WriteFault>
     requires { IsSound out.old }
-    ensures ok { OnOk result (Puts K.grew K.write_faults out.old (counted_twice label.now value (codes " at ") at) out.new) }
-    ensures err { OnErr result (Fails K.grew K.write_faults out.old (counted_twice label.now value (codes " at ") at) out.new) }
+    ensures ok { OnOk result (Puts K.grew K.write_faults out.old
+        (counted_twice label.now value (codes " at ") at) out.new) }
+    ensures err { OnErr result (Fails K.grew K.write_faults out.old
+        (counted_twice label.now value (codes " at ") at) out.new) }
 {
     put_counted_twice(label, value as u64, b" at ", at, out)
 }
@@ -124,7 +128,8 @@ fn put_found<K: Sink>(
 fn put_range<K: Sink>(number: u32, out: &mut Putter<'_, K>) -> Result<(), WriteFault>
     requires { IsSound out.old }
     ensures ok { OnOk result (Puts K.grew K.write_faults out.old (file_fault_text (file.VersionRange number)) out.new) }
-    ensures err { OnErr result (Fails K.grew K.write_faults out.old (file_fault_text (file.VersionRange number)) out.new) }
+    ensures err { OnErr result (Fails K.grew K.write_faults out.old
+        (file_fault_text (file.VersionRange number)) out.new) }
 {
     put_version(b"file F6: version ", number, out)?;
     out.put(b" out of range")
@@ -134,8 +139,10 @@ fn put_range<K: Sink>(number: u32, out: &mut Putter<'_, K>) -> Result<(), WriteF
 #[tactic(auto, using(nif_stream::specs::PutterLaws::puts))]
 fn put_versions<K: Sink>(line: u32, field: u32, out: &mut Putter<'_, K>) -> Result<(), WriteFault>
     requires { IsSound out.old }
-    ensures ok { OnOk result (Puts K.grew K.write_faults out.old (file_fault_text (file.VersionDisagrees line field)) out.new) }
-    ensures err { OnErr result (Fails K.grew K.write_faults out.old (file_fault_text (file.VersionDisagrees line field)) out.new) }
+    ensures ok { OnOk result (Puts K.grew K.write_faults out.old
+        (file_fault_text (file.VersionDisagrees line field)) out.new) }
+    ensures err { OnErr result (Fails K.grew K.write_faults out.old
+        (file_fault_text (file.VersionDisagrees line field)) out.new) }
 {
     put_version(b"file F7: line version ", line, out)?;
     put_version(b", field version ", field, out)
@@ -145,7 +152,8 @@ fn put_versions<K: Sink>(line: u32, field: u32, out: &mut Putter<'_, K>) -> Resu
 fn put_endian<K: Sink>(value: u8, out: &mut Putter<'_, K>) -> Result<(), WriteFault>
     requires { IsSound out.old }
     ensures ok { OnOk result (Puts K.grew K.write_faults out.old (file_fault_text (file.EndianValue value)) out.new) }
-    ensures err { OnErr result (Fails K.grew K.write_faults out.old (file_fault_text (file.EndianValue value)) out.new) }
+    ensures err { OnErr result (Fails K.grew K.write_faults out.old
+        (file_fault_text (file.EndianValue value)) out.new) }
 {
     put_counted(b"file F8: endian value ", value as u64, out)
 }
@@ -153,8 +161,10 @@ fn put_endian<K: Sink>(value: u8, out: &mut Putter<'_, K>) -> Result<(), WriteFa
 /// Puts that the index word of a block names no type.
 fn put_index<K: Sink>(block: u32, index: u16, out: &mut Putter<'_, K>) -> Result<(), WriteFault>
     requires { IsSound out.old }
-    ensures ok { OnOk result (Puts K.grew K.write_faults out.old (file_fault_text (file.TypeIndex block index)) out.new) }
-    ensures err { OnErr result (Fails K.grew K.write_faults out.old (file_fault_text (file.TypeIndex block index)) out.new) }
+    ensures ok { OnOk result (Puts K.grew K.write_faults out.old
+        (file_fault_text (file.TypeIndex block index)) out.new) }
+    ensures err { OnErr result (Fails K.grew K.write_faults out.old
+        (file_fault_text (file.TypeIndex block index)) out.new) }
 {
     put_counted_twice(
         b"file F12: block ",
@@ -169,8 +179,10 @@ fn put_index<K: Sink>(block: u32, index: u16, out: &mut Putter<'_, K>) -> Result
 #[tactic(auto, using(nif_stream::specs::PutterLaws::puts))]
 fn put_unknown<K: Sink>(block: u32, name: &[u8], out: &mut Putter<'_, K>) -> Result<(), WriteFault>
     requires { IsSound out.old }
-    ensures ok { OnOk result (Puts K.grew K.write_faults out.old (file_fault_text (file.UnknownType block name.now)) out.new) }
-    ensures err { OnErr result (Fails K.grew K.write_faults out.old (file_fault_text (file.UnknownType block name.now)) out.new) }
+    ensures ok { OnOk result (Puts K.grew K.write_faults out.old
+        (file_fault_text (file.UnknownType block name.now)) out.new) }
+    ensures err { OnErr result (Fails K.grew K.write_faults out.old
+        (file_fault_text (file.UnknownType block name.now)) out.new) }
 {
     match put_between(b"file F13: block ", block, b" unknown type ", out) {
         Ok(()) => {}
@@ -183,7 +195,8 @@ fn put_unknown<K: Sink>(block: u32, name: &[u8], out: &mut Putter<'_, K>) -> Res
 fn put_abstract<K: Sink>(block: u32, out: &mut Putter<'_, K>) -> Result<(), WriteFault>
     requires { IsSound out.old }
     ensures ok { OnOk result (Puts K.grew K.write_faults out.old (file_fault_text (file.AbstractType block)) out.new) }
-    ensures err { OnErr result (Fails K.grew K.write_faults out.old (file_fault_text (file.AbstractType block)) out.new) }
+    ensures err { OnErr result (Fails K.grew K.write_faults out.old
+        (file_fault_text (file.AbstractType block)) out.new) }
 {
     put_between(b"file F14: block ", block, b" abstract type", out)
 }
@@ -195,8 +208,10 @@ fn put_closed<K: Sink>(
     out: &mut Putter<'_, K>,
 ) -> Result<(), WriteFault>
     requires { IsSound out.old }
-    ensures ok { OnOk result (Puts K.grew K.write_faults out.old (file_fault_text (file.ClosedType block reason)) out.new) }
-    ensures err { OnErr result (Fails K.grew K.write_faults out.old (file_fault_text (file.ClosedType block reason)) out.new) }
+    ensures ok { OnOk result (Puts K.grew K.write_faults out.old
+        (file_fault_text (file.ClosedType block reason)) out.new) }
+    ensures err { OnErr result (Fails K.grew K.write_faults out.old
+        (file_fault_text (file.ClosedType block reason)) out.new) }
 {
     put_counted_twice(
         b"file F15: block ",
@@ -214,8 +229,10 @@ fn put_check_word<K: Sink>(
     out: &mut Putter<'_, K>,
 ) -> Result<(), WriteFault>
     requires { IsSound out.old }
-    ensures ok { OnOk result (Puts K.grew K.write_faults out.old (file_fault_text (file.CheckWord block value)) out.new) }
-    ensures err { OnErr result (Fails K.grew K.write_faults out.old (file_fault_text (file.CheckWord block value)) out.new) }
+    ensures ok { OnOk result (Puts K.grew K.write_faults out.old
+        (file_fault_text (file.CheckWord block value)) out.new) }
+    ensures err { OnErr result (Fails K.grew K.write_faults out.old
+        (file_fault_text (file.CheckWord block value)) out.new) }
 {
     put_counted_twice(
         b"file F16: block ",
@@ -235,8 +252,10 @@ fn put_sizes<K: Sink>(
     out: &mut Putter<'_, K>,
 ) -> Result<(), WriteFault>
     requires { IsSound out.old }
-    ensures ok { OnOk result (Puts K.grew K.write_faults out.old (file_fault_text (file.BlockSize block stated used)) out.new) }
-    ensures err { OnErr result (Fails K.grew K.write_faults out.old (file_fault_text (file.BlockSize block stated used)) out.new) }
+    ensures ok { OnOk result (Puts K.grew K.write_faults out.old
+        (file_fault_text (file.BlockSize block stated used)) out.new) }
+    ensures err { OnErr result (Fails K.grew K.write_faults out.old
+        (file_fault_text (file.BlockSize block stated used)) out.new) }
 {
     put_counted(b"file F17: block ", block as u64, out)?;
     put_counted_twice(b" size ", stated as u64, b", used ", used as u64, out)
@@ -285,8 +304,10 @@ pub fn put_file_fault<K: Sink>(fault: &FileFault, out: &mut Putter<'_, K>) -> Re
 #[tactic(auto, using(nif_stream::specs::PutterLaws::puts))]
 fn put_nodes<K: Sink>(nodes: u64, out: &mut Putter<'_, K>) -> Result<(), WriteFault>
     requires { IsSound out.old }
-    ensures ok { OnOk result (Puts K.grew K.write_faults out.old (counted (codes " nodes ") nodes ++ codes "\n") out.new) }
-    ensures err { OnErr result (Fails K.grew K.write_faults out.old (counted (codes " nodes ") nodes ++ codes "\n") out.new) }
+    ensures ok { OnOk result (Puts K.grew K.write_faults out.old
+        (counted (codes " nodes ") nodes ++ codes "\n") out.new) }
+    ensures err { OnErr result (Fails K.grew K.write_faults out.old
+        (counted (codes " nodes ") nodes ++ codes "\n") out.new) }
 {
     put_counted(b" nodes ", nodes, out)?;
     out.put(b"\n")
@@ -301,8 +322,12 @@ fn put_totals<K: Sink>(
     out: &mut Putter<'_, K>,
 ) -> Result<(), WriteFault>
     requires { IsSound out.old }
-    ensures ok { OnOk result (Puts K.grew K.write_faults out.old (counted_twice (codes " blocks ") blocks (codes " bytes ") bytes ++ (counted (codes " nodes ") nodes ++ codes "\n")) out.new) }
-    ensures err { OnErr result (Fails K.grew K.write_faults out.old (counted_twice (codes " blocks ") blocks (codes " bytes ") bytes ++ (counted (codes " nodes ") nodes ++ codes "\n")) out.new) }
+    ensures ok { OnOk result (Puts K.grew K.write_faults out.old
+        (counted_twice (codes " blocks ") blocks (codes " bytes ") bytes ++
+        (counted (codes " nodes ") nodes ++ codes "\n")) out.new) }
+    ensures err { OnErr result (Fails K.grew K.write_faults out.old
+        (counted_twice (codes " blocks ") blocks (codes " bytes ") bytes ++
+        (counted (codes " nodes ") nodes ++ codes "\n")) out.new) }
 {
     put_counted_twice(b" blocks ", blocks, b" bytes ", bytes, out)?;
     put_nodes(nodes, out)
@@ -319,8 +344,10 @@ pub fn put_summary<K: Sink>(
     out: &mut Putter<'_, K>,
 ) -> Result<(), WriteFault>
     requires { IsSound out.old }
-    ensures ok { OnOk result (Puts K.grew K.write_faults out.old (summary_text version.number blocks bytes nodes) out.new) }
-    ensures err { OnErr result (Fails K.grew K.write_faults out.old (summary_text version.number blocks bytes nodes) out.new) }
+    ensures ok { OnOk result (Puts K.grew K.write_faults out.old
+        (summary_text version.number blocks bytes nodes) out.new) }
+    ensures err { OnErr result (Fails K.grew K.write_faults out.old
+        (summary_text version.number blocks bytes nodes) out.new) }
 {
     put_version(b"ok ", version.number, out)?;
     put_totals(blocks as u64, bytes as u64, nodes as u64, out)

@@ -35,8 +35,10 @@ fn text_of(reason: Closed) -> &'static [u8]
 #[tactic(auto, using(nif_stream::specs::PutterLaws::puts))]
 fn put_reason<K: Sink>(reason: Closed, out: &mut Putter<'_, K>) -> Result<(), WriteFault>
     requires { IsSound out.old }
-    ensures ok { OnOk result (Puts K.grew K.write_faults out.old (codes " " ++ (reason_text reason ++ codes "\n")) out.new) }
-    ensures err { OnErr result (Fails K.grew K.write_faults out.old (codes " " ++ (reason_text reason ++ codes "\n")) out.new) }
+    ensures ok { OnOk result (Puts K.grew K.write_faults out.old
+        (codes " " ++ (reason_text reason ++ codes "\n")) out.new) }
+    ensures err { OnErr result (Fails K.grew K.write_faults out.old
+        (codes " " ++ (reason_text reason ++ codes "\n")) out.new) }
 {
     out.put(b" ")?;
     out.put(text_of(reason))?;
@@ -99,8 +101,10 @@ fn put_totals<K: Sink>(
 #[tactic(auto, using(nif_stream::specs::PutterLaws::puts))]
 pub fn schema_list<K: Sink>(checked: &Checked, out: &mut Putter<'_, K>) -> Result<(), WriteFault>
     requires { IsSound out.old }
-    ensures ok { OnOk result ((text : List ℕ) × IsListing checked.now text × Puts K.grew K.write_faults out.old text out.new) }
-    ensures err { OnErr result ((text : List ℕ) × IsListing checked.now text × Fails K.grew K.write_faults out.old text out.new) }
+    ensures ok { OnOk result ((text : List ℕ) × IsListing checked.now text
+        × Puts K.grew K.write_faults out.old text out.new) }
+    ensures err { OnErr result ((text : List ℕ) × IsListing checked.now text
+        × Fails K.grew K.write_faults out.old text out.new) }
 {
     let schema = checked.schema();
     let mut open_types = 0u64;

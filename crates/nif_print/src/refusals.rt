@@ -12,8 +12,10 @@ use nif_stream::Putter;
 #[tactic(auto, using(nif_stream::specs::PutterLaws::puts))]
 fn put_not_written<K: Sink>(after: u32, out: &mut Putter<'_, K>) -> Result<(), WriteFault>
     requires { IsSound out.old }
-    ensures ok { OnOk result (Puts K.grew K.write_faults out.old (codes "schema S1: not written after " ++ (decimal after ++ codes " elements")) out.new) }
-    ensures err { OnErr result (Fails K.grew K.write_faults out.old (codes "schema S1: not written after " ++ (decimal after ++ codes " elements")) out.new) }
+    ensures ok { OnOk result (Puts K.grew K.write_faults out.old
+        (codes "schema S1: not written after " ++ (decimal after ++ codes " elements")) out.new) }
+    ensures err { OnErr result (Fails K.grew K.write_faults out.old
+        (codes "schema S1: not written after " ++ (decimal after ++ codes " elements")) out.new) }
 {
     put_counted(b"schema S1: not written after ", after as u64, out)?;
     out.put(b" elements")
