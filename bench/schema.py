@@ -7,7 +7,7 @@ For each shape it makes texts of 0.5, 1, 2 and 4 MiB and prints the best of thre
 size doubled: about 2 is linear. Different paths of two names may grow by 2.8. Exit status 0 (listed) and 3 (refused)
 are both fine. It is no part of the tests.
 """
-import os, resource, subprocess, sys, tempfile, time
+import itertools, os, resource, subprocess, sys, tempfile, time
 
 PLAIN = """ <basic name="ulittle32"/> <basic name="uint"/> <basic name="HeaderString"/> <basic name="FileVersion"/>
  <struct name="Header"><field name="Header String" type="HeaderString"/><field name="Version" type="FileVersion"/>
@@ -218,26 +218,26 @@ def folded(a, b):
     return product & MASK ^ product >> 64
 
 
-def hash_of(name):
-    """What a hash of a fixed seed, 128 bits of a product folded, makes of the length of a name and of its bytes, which
-    are given one by one."""
-    state = folded(0x243F6A8885A308D3 ^ (len(name) | len(name) << 32), MULTIPLIER ^ 16)
-    for byte in name.encode():
-        state = folded(state ^ (byte | byte << 8 | byte << 16), MULTIPLIER ^ 2)
-    return state
+def hashed(state, byte):
+    return folded(state ^ (byte | byte << 8 | byte << 16), MULTIPLIER ^ 2)
 
 
 def names_of_near_hashes(size):
-    """Of 64 times as many names those whose hashes have the same last bits. A table that goes by them, and not by the
-    order of names, has them all in one place."""
-    count = size // 400
-    names, i = [], 0
-    while len(names) < count:
-        name = "N%07x" % i
-        if hash_of(name) & 63 == 0:
-            names.append(name)
-        i += 1
-    return filled(size, lambda i: '<struct name="%s"/>' % (names[i] if i < count else "M%d" % i))
+    """Names for which a hash of a fixed seed, that of the kit, has the same last ten bits: a table that goes by it has
+    them all in one place. There is one for each 512 bytes of the size, and nothing else."""
+    letters = b"abcdefghijklmnopqrstuvwxyzABCDEFGHIJKLMNOPQRSTUVWXYZ0123456789"
+    names = []
+    for front in itertools.product(letters, repeat=5):
+        state = folded(0x243F6A8885A308D3 ^ 6, MULTIPLIER ^ 16)
+        for byte in front:
+            state = hashed(state, byte)
+        for last in letters:
+            value = hashed(state, last)
+            if (value ^ value >> 32) & 1023 == 0:
+                names.append((bytes(front) + bytes([last])).decode())
+        if len(names) >= size // 512:
+            break
+    return "<niftoolsxml>" + PLAIN + "".join('<struct name="%s"/>' % name for name in names[:size // 512]) + "</niftoolsxml>"
 
 
 SHAPES = [chain, chain_backwards, loop_of_parents, chain_with_fields, conditions_on_the_first, one_name, paths_through_one_name,
