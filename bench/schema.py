@@ -223,8 +223,8 @@ def hashed(state, byte):
 
 
 def names_of_near_hashes(size):
-    """Names for which a hash of a fixed seed, that of the kit, has the same last ten bits: a table that goes by it has
-    them all in one place. There is one for each 512 bytes of the size, and nothing else."""
+    """Names for which a hash of a fixed seed, that of the kit, has the same last eleven bits: a table that goes by it has
+    them all in one place. There is one for each 768 bytes of the size, and nothing else."""
     letters = b"abcdefghijklmnopqrstuvwxyzABCDEFGHIJKLMNOPQRSTUVWXYZ0123456789"
     names = []
     for front in itertools.product(letters, repeat=5):
@@ -233,11 +233,11 @@ def names_of_near_hashes(size):
             state = hashed(state, byte)
         for last in letters:
             value = hashed(state, last)
-            if (value ^ value >> 32) & 1023 == 0:
+            if (value ^ value >> 32) & 2047 == 0:
                 names.append((bytes(front) + bytes([last])).decode())
-        if len(names) >= size // 512:
+        if len(names) >= size // 768:
             break
-    return "<niftoolsxml>" + PLAIN + "".join('<struct name="%s"/>' % name for name in names[:size // 512]) + "</niftoolsxml>"
+    return "<niftoolsxml>" + PLAIN + "".join('<struct name="%s"/>' % name for name in names[:size // 768]) + "</niftoolsxml>"
 
 
 SHAPES = [chain, chain_backwards, loop_of_parents, chain_with_fields, conditions_on_the_first, one_name, paths_through_one_name,
