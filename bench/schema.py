@@ -7,7 +7,7 @@ For each shape it makes texts of 0.5, 1, 2 and 4 MiB and prints the best of thre
 size doubled: about 2 is linear. Different paths of two names may grow by 2.8. Exit status 0 (listed) and 3 (refused)
 are both fine. It is no part of the tests.
 """
-import os, resource, subprocess, sys, tempfile, time
+import itertools, os, resource, subprocess, sys, tempfile, time
 
 PLAIN = """ <basic name="ulittle32"/> <basic name="uint"/> <basic name="HeaderString"/> <basic name="FileVersion"/>
  <struct name="Header"><field name="Header String" type="HeaderString"/><field name="Version" type="FileVersion"/>
@@ -179,11 +179,73 @@ def tokens(size):
     return filled(size, lambda i: '<field name="F%d" type="uint"%s/>' % (i, ' cond="#T%d# == 1"' % (i % 20) if i else ""), head, "</struct>")
 
 
+def tokens_and_fields(size, token, field):
+    """Half of the text are tokens of `name` and `type`, and half are fields; `field` takes its place and the tokens' number."""
+    half = (size - 600) // 2
+    tokens, fields = [], []
+    for parts, item in (tokens, token), (fields, lambda i: field(i, len(tokens))):
+        length = 0
+        while length < half:
+            parts.append(item(len(parts)))
+            length += len(parts[-1])
+    return ("<niftoolsxml>" + PLAIN + '<token name="t" attrs="name type">' + "".join(tokens) + '</token><struct name="S">'
+            + "".join(fields) + "</struct></niftoolsxml>")
+
+
+def tokens_that_do_not_occur(size):
+    return tokens_and_fields(size, lambda i: '<t token="#T%d#" string="x"/>' % i, lambda i, n: '<field name="F%d" type="uint"/>' % i)
+
+
+def tokens_like_the_names(size):
+    long = "#" + "T" * 20
+    return tokens_and_fields(size, lambda i: '<t token="%s%d#" string="x"/>' % (long, i), lambda i, n: '<field name="%s%d" type="uint"/>' % (long, i))
+
+
+def one_token_a_field(size):
+    return tokens_and_fields(size, lambda i: '<t token="#T%d#" string="x"/>' % i, lambda i, n: '<field name="a#T%d#b" type="uint"/>' % (i * 7919 % n))
+
+
+def one_token_many_times(size):
+    return tokens_and_fields(size, lambda i: '<t token="%d,%d" string=""/>' % (i % 1000, i // 1000), lambda i, n: '<field name="F%s" type="uint"/>' % ("1,7" * 100))
+
+
+MASK = (1 << 64) - 1
+MULTIPLIER = 0x9E3779B97F4A7C15
+
+
+def folded(a, b):
+    product = a * b
+    return product & MASK ^ product >> 64
+
+
+def hashed(state, byte):
+    return folded(state ^ (byte | byte << 8 | byte << 16), MULTIPLIER ^ 2)
+
+
+def names_of_near_hashes(size):
+    """Names for which a hash of a fixed seed, that of the kit, has the same last eleven bits: a table that goes by it has
+    them all in one place. There is one for each 768 bytes of the size, and nothing else."""
+    letters = b"abcdefghijklmnopqrstuvwxyzABCDEFGHIJKLMNOPQRSTUVWXYZ0123456789"
+    names = []
+    for front in itertools.product(letters, repeat=5):
+        state = folded(0x243F6A8885A308D3 ^ 6, MULTIPLIER ^ 16)
+        for byte in front:
+            state = hashed(state, byte)
+        for last in letters:
+            value = hashed(state, last)
+            if (value ^ value >> 32) & 2047 == 0:
+                names.append((bytes(front) + bytes([last])).decode())
+        if len(names) >= size // 768:
+            break
+    return "<niftoolsxml>" + PLAIN + "".join('<struct name="%s"/>' % name for name in names[:size // 768]) + "</niftoolsxml>"
+
+
 SHAPES = [chain, chain_backwards, loop_of_parents, chain_with_fields, conditions_on_the_first, one_name, paths_through_one_name,
           paths_through_many_types, types_and_paths_in_turn,
           paths_with_a_reason_in_children, types_and_paths_in_children, different_rests_of_two_names,
           many_first_names_of_one_type, many_rests_through_one_inner_type, long_paths, ring, uses_of_one_closed, children_of_one,
-          attributes, references, deep, text_and_comments, unfinished, tokens]
+          attributes, references, deep, text_and_comments, unfinished, tokens,
+          tokens_that_do_not_occur, tokens_like_the_names, one_token_a_field, one_token_many_times, names_of_near_hashes]
 
 
 def best(words, runs=3):

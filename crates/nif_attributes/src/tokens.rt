@@ -458,6 +458,3 @@ impl Tokens {
         Ok(out)
     }
 }
-
-#[cfg(test)]
-mod tests;

@@ -17,6 +17,3 @@ pub mod values;
 pub use bindings::Env;
 pub use parsing::{ExprFault, parse};
 pub use values::eval;
-
-#[cfg(test)]
-mod tests;

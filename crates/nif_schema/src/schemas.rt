@@ -171,6 +171,3 @@ impl Schema {
         false
     }
 }
-
-#[cfg(test)]
-mod tests;

@@ -17,6 +17,3 @@ mod value;
 
 pub use document::read_elements;
 pub use tree::{Attrs, Element, TextFault};
-
-#[cfg(test)]
-mod tests;
