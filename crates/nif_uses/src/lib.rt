@@ -10,4 +10,3 @@ mod users;
 pub use names::named;
 pub use spread::reaching;
 pub use templates::{generic_structs, is_own_template};
-
