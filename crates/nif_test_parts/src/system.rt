@@ -19,27 +19,43 @@ fn words(alloc: Global, line: &str) -> Result<Vec<String>, Fail> {
     Ok(words)
 }
 
+/// Runs a line over the system's files; its status, and whether it prints this text.
+fn run_line(rt: &HostRuntime, line: &str, text: &[u8]) -> Result<(Status, bool), Fail> {
+    let mut out = MemSink::new(rt.alloc(), 1, None);
+    let words = words(rt.alloc(), line)?;
+    let report = run(
+        rt.alloc(),
+        words.as_slice(),
+        &mut RealShelf::new(rt),
+        &mut out,
+    );
+    Ok((report.status, out.bytes() == text))
+}
+
+/// Whether a line is done, prints the line of the file, and leaves it as the file of this name, which is then taken away.
+fn copies(rt: &HostRuntime, line: &str, to: &str) -> Result<bool, Fail> {
+    let (status, prints) = run_line(rt, line, b"ok 4.0.0.2 blocks 1 bytes 75 nodes 10\n")?;
+    let same = fs::read(rt, to)?.as_slice() == ONE_BLOCK;
+    fs::remove_file(rt, to)?;
+    Ok(status == Status::Done && prints && same)
+}
+
+/// Whether a line is refused, since it can't open a file, and leaves no file of this name.
+fn refuses(rt: &HostRuntime, line: &str, to: &str) -> Result<bool, Fail> {
+    let (status, prints) = run_line(rt, line, b"nif: open fault\n")?;
+    Ok(status == Status::OutsideFault && prints && !fs::exists(rt, to)?)
+}
+
 /// Copies a file of the system, and refuses one that is not there.
 #[test]
 fn copies_a_real_file(rt: HostRuntime) -> Result<(), Fail> {
-    let alloc = rt.alloc();
     let now = SystemTime::now(&rt)?.duration_since(UNIX_EPOCH)?.as_nanos();
-    let from = format!(in alloc; "/tmp/nif_test_{now}.nif")?;
-    let to = format!(in alloc; "/tmp/nif_test_{now}_copy.nif")?;
+    let from = format!(in rt.alloc(); "/tmp/nif_test_{now}.nif")?;
+    let to = format!(in rt.alloc(); "/tmp/nif_test_{now}_copy.nif")?;
+    let line = format!(in rt.alloc(); "copy plain {from} {to}")?;
     fs::write(&rt, from.as_str(), ONE_BLOCK)?;
-    let mut out = MemSink::new(alloc, 1, None);
-
-    let line = format!(in alloc; "copy plain {from} {to}")?;
-    let words = words(alloc, line.as_str())?;
-    let report = run(alloc, words.as_slice(), &mut RealShelf::new(&rt), &mut out);
-    assert!(rt; report.status == Status::Done);
-    assert!(rt; out.bytes() == b"ok 4.0.0.2 blocks 1 bytes 75 nodes 10\n".as_slice());
-    assert!(rt; fs::read(&rt, to.as_str())?.as_slice() == ONE_BLOCK);
-
+    assert!(rt; copies(&rt, line.as_str(), to.as_str())?);
     fs::remove_file(&rt, from.as_str())?;
-    fs::remove_file(&rt, to.as_str())?;
-    let report = run(alloc, words.as_slice(), &mut RealShelf::new(&rt), &mut out);
-    assert!(rt; report.status == Status::OutsideFault);
-    assert!(rt; !fs::exists(&rt, to.as_str())?);
+    assert!(rt; refuses(&rt, line.as_str(), to.as_str())?);
     Ok(())
 }
