@@ -80,7 +80,9 @@ cond_twice false x y z = refl
 
 -- the later of two writes of one file counts
 pub insert_twice : (m : Files) (k v w : List ℕ) → insert (insert m k v) k w ≡ insert m k w
-insert_twice m k v w = names_alike _ _ (λ q. get-put (insert m k v) k w q ∙ ap (cond (eq_by_cmp name_cmp q k) (Some w)) (get-put m k v q) ∙ cond_twice (eq_by_cmp name_cmp q k) (Some w) (Some v) (get m q) ∙ sym (get-put m k w q))
+insert_twice m k v w = names_alike _ _ (λ q. get-put (insert m k v) k w q
+    ∙ ap (cond (eq_by_cmp name_cmp q k) (Some w)) (get-put m k v q)
+    ∙ cond_twice (eq_by_cmp name_cmp q k) (Some w) (Some v) (get m q) ∙ sym (get-put m k w q))
 
 equal_of : (r : Ordering) → is_eq r ≡ true → r ≡ Equal
 equal_of Less e = cc
@@ -156,7 +158,9 @@ pub insert_swap : (m : Files) (k v l w : List ℕ) → eq_by_cmp name_cmp k l �
     → insert (insert m k v) l w ≡ insert (insert m l w) k v
 insert_swap m k v l w d = names_alike _ _ (λ q.
     get-put (insert m k v) l w q ∙ ap (cond (eq_by_cmp name_cmp q l) (Some w)) (get-put m k v q)
-    ∙ elim (eq_by_cmp name_cmp q k) as (λ b. eq_by_cmp name_cmp q k ≡ b → cond (eq_by_cmp name_cmp q l) (Some w) (cond b (Some v) (get m q)) ≡ cond b (Some v) (cond (eq_by_cmp name_cmp q l) (Some w) (get m q))) [
+    ∙ elim (eq_by_cmp name_cmp q k) as (λ b. eq_by_cmp name_cmp q k ≡ b
+    → cond (eq_by_cmp name_cmp q l) (Some w) (cond b (Some v) (get m q))
+    ≡ cond b (Some v) (cond (eq_by_cmp name_cmp q l) (Some w) (get m q))) [
       | true ↦ λ e. ap (λ b. cond b (Some w) (Some v)) (ap (λ p. eq_by_cmp name_cmp p l) (one_name q k e) ∙ d)
       | false ↦ λ e. refl
     ] refl
@@ -164,5 +168,6 @@ insert_swap m k v l w d = names_alike _ _ (λ q.
 
 -- desks of the same files and output
 pub desk_with : {m n : Files} {p q : Option (List ℕ)} (input : Option (List ℕ)) → m ≡ n → p ≡ q
-    → ◌≡◌ {A = Option Desk} (Some (record { files = m; input = input; output = p })) (Some (record { files = n; input = input; output = q }))
+    → ◌≡◌ {A = Option Desk} (Some (record { files = m; input = input; output = p }))
+    (Some (record { files = n; input = input; output = q }))
 desk_with input e f = λ i. Some (record { files = e i; input = input; output = f i })

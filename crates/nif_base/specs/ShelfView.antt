@@ -45,7 +45,15 @@ pub stayed_same : (v : View) → Stayed v v
 stayed_same v = record { desk = refl; taken = refl; refused = refl; reads = omega arith; writes = omega arith; opens = omega arith }
 
 pub stayed_joined : (u v w : View) → Stayed u v → Stayed v w → Stayed u w
-stayed_joined u v w p q = record { desk = q.desk ∙ p.desk; taken = q.taken ∙ p.taken; refused = q.refused ∙ p.refused; reads = omega arith; writes = omega arith; opens = omega arith }
+stayed_joined u v w p q = record {
+  desk = q.desk ∙ p.desk;
+  taken = q.taken ∙ p.taken;
+  refused = q.refused
+      ∙ p.refused;
+  reads = omega arith;
+  writes = omega arith;
+  opens = omega arith;
+}
 
 written_none : (d : Option Desk) → d ≡ option_map (written []) d
 written_none None = refl
@@ -68,7 +76,16 @@ appended_twice (Some t) x y = ap Some (append_assoc t x y)
 pub grew_none : (u v : View) → v.left ≡ u.left → v.desk ≡ u.desk → v.taken ≡ u.taken → v.refused ≡ u.refused
     → u.reads ≤ v.reads → u.writes ≤ v.writes → u.opens ≤ v.opens → Grew u [] v
 grew_none u v left desk taken refused reads writes opens =
-    record { left = left; desk = desk ∙ written_none u.desk; taken = taken ∙ appended_none u.taken; refused = refused; reads = reads; writes = writes; opens = opens }
+    record {
+      left = left;
+      desk = desk ∙ written_none u.desk;
+      taken = taken
+          ∙ appended_none u.taken;
+      refused = refused;
+      reads = reads;
+      writes = writes;
+      opens = opens;
+    }
 
 pub grew_same : (v : View) → Grew v [] v
 grew_same v = grew_none v v refl refl refl refl (omega arith) (omega arith) (omega arith)

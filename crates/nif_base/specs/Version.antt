@@ -12,7 +12,8 @@ use Rattle.std.specs.Int.{from_be_bytes, w32}
 -- the value of a part, or none where the bytes are no part
 unfoldable pub part_of : List ℕ → Option ℕ
 part_of bytes =
-    if list_all is_ascii_digit bytes && nat_le 1 (length bytes) && nat_le (length bytes) 3 && nat_le (digits_value 10 bytes) 255
+    if list_all is_ascii_digit bytes && nat_le 1 (length bytes) && nat_le (length bytes) 3
+    && nat_le (digits_value 10 bytes) 255
     then Some (digits_value 10 bytes)
     else None
 
@@ -28,7 +29,8 @@ values_of (piece ∷ pieces) =
 
 -- the number that has these bytes and behind them zeros, or none where they are more than four
 unfoldable pub number_of : List ℕ → Option ℕ
-number_of values = if nat_le (length values) 4 then Some (from_be_bytes w32 (values ++ replicate (4 - length values) 0)) else None
+number_of values = if nat_le (length values) 4 then Some (from_be_bytes w32 (values ++ replicate (4 - length values) 0))
+    else None
 
 -- the number of a version text, or none where the text is no version text
 unfoldable pub version_of : List ℕ → Option ℕ

@@ -147,7 +147,8 @@ impl MemFiles {
     /// Adds bytes to the output, if there is one, and to those that were ever written.
     #[tactic(auto, using(crate::specs::Shelf::written_more, crate::specs::Shelf::written_nowhere))]
     pub fn append(&mut self, piece: &[u8]) -> Result<(), NoMemory>
-        ensures files { OnOk result (all_files self.new ≡ files_written (all_files self.old) (output_of self.old) piece.now) }
+        ensures files { OnOk result (all_files self.new
+            ≡ files_written (all_files self.old) (output_of self.old) piece.now) }
         ensures output { output_of self.new ≡ output_of self.old }
         ensures taken { OnOk result (self.new.taken.items ≡ self.old.taken.items ++ piece.now) }
         ensures err { OnErr result (all_files self.new ≡ all_files self.old) }

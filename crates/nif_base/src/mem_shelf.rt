@@ -268,7 +268,8 @@ impl MemShelf {
 
     /// Puts a file on the shelf, in place of one of that name; an input that was opened keeps its bytes.
     pub fn put(&mut self, name: &str, bytes: &[u8]) -> Result<(), NoMemory>
-        ensures ok { OnOk result (view_of self.new ≡ record (view_of self.old) { desk = option_map (put name.now bytes.now) (view_of self.old).desk }) }
+        ensures ok { OnOk result (view_of self.new ≡ record
+            (view_of self.old) { desk = option_map (put name.now bytes.now) (view_of self.old).desk }) }
         ensures err { OnErr result (view_of self.new ≡ view_of self.old) }
         ensures tells { tells_refusals self.new ≡ tells_refusals self.old }
         ensures piece { piece_of self.new ≡ piece_of self.old }
@@ -295,7 +296,8 @@ impl MemShelf {
 
     /// The call of the traits of this number, counted from 0, is to fail.
     pub fn fail_call(&mut self, number: u64) -> Result<(), NoMemory>
-        ensures ok { OnOk result (calls_of self.new ≡ record (calls_of self.old) { failing = (calls_of self.old).failing ++ number ∷ [] }) }
+        ensures ok { OnOk result (calls_of self.new ≡ record
+            (calls_of self.old) { failing = (calls_of self.old).failing ++ number ∷ [] }) }
         ensures err { OnErr result (calls_of self.new ≡ calls_of self.old) }
         ensures view { view_of self.new ≡ view_of self.old }
         ensures tells { tells_refusals self.new ≡ tells_refusals self.old }

@@ -69,7 +69,8 @@ impl Sink for MemSink {
         ensures bound { IfOk result (λ n. n ≤ length piece.now) }
         ensures some { IfOk result (λ n. 0 < length piece.now → 0 < n) }
         ensures cause { HasCause self.old.faults self.new.faults result }
-        ensures grew { SinkGrew self.old.bytes.items self.old.faults (moved result piece.now) self.new.bytes.items self.new.faults }
+        ensures grew { SinkGrew self.old.bytes.items self.old.faults
+            (moved result piece.now) self.new.bytes.items self.new.faults }
         ensures fails { IsTrue (fails (calls_of self.old)) → IsErr result }
         ensures piece { IfOk result (λ n. n ≤ piece_of self.old) }
         ensures same_piece { piece_of self.new ≡ piece_of self.old }

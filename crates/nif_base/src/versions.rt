@@ -43,7 +43,8 @@ impl Version {
 
     /// Whether it is at least `since` and at most `until`, each where it is given.
     pub fn inside(self, since: Option<Version>, until: Option<Version>) -> bool
-        ensures { IsTrue result ↔ IsInside self.number (option_map (λ first. first.number) since) (option_map (λ last. last.number) until) }
+        ensures { IsTrue result ↔ IsInside self.number (option_map (λ first. first.number) since)
+            (option_map (λ last. last.number) until) }
     {
         since.is_none_or(|first| first.number <= self.number)
             && until.is_none_or(|last| self.number <= last.number)
@@ -52,8 +53,10 @@ impl Version {
 
 /// The bytes before the first dot, and those behind it where there is one.
 fn cut(text: &[u8]) -> (&[u8], Option<&[u8]>)
-    ensures parts { MatchOption result.1 (pieces_of text.now ≡ result.0.now ∷ []) (λ behind. pieces_of text.now ≡ result.0.now ∷ pieces_of behind.now) }
-    ensures less { MatchOption result.1 (length result.0.now ≡ length text.now) (λ behind. length behind.now < length text.now) }
+    ensures parts { MatchOption result.1 (pieces_of text.now ≡ result.0.now ∷ [])
+        (λ behind. pieces_of text.now ≡ result.0.now ∷ pieces_of behind.now) }
+    ensures less { MatchOption result.1 (length result.0.now ≡ length text.now)
+        (λ behind. length behind.now < length text.now) }
 {
     match first_dot(text) {
         Some(dot) => (&text[..dot], Some(&text[dot + 1..])),

@@ -117,5 +117,6 @@ abbrev mutual
   pub with_target_in : ℕ → Option ℕ → Members → Members
   with_target_in k target End = End
   with_target_in k target (Here node rest) =
-      if nat_lt k (length (refs node)) then Here (with_target k target node) rest else Here node (with_target_in (k - length (refs node)) target rest)
+      if nat_lt k (length (refs node)) then Here (with_target k target node) rest
+      else Here node (with_target_in (k - length (refs node)) target rest)
   with_target_in k target (Absent rest) = Absent (with_target_in k target rest)

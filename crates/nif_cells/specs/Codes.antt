@@ -30,7 +30,12 @@ kind_of view = 16 + bit_of view.strong + 2 * bit_of (is_some view.wanted) + 4 * 
 
 -- the reference that a cell says
 abbrev pub reference_in : Cell → RefView
-reference_in c = record { strong = has_bit c.kind 1; wanted = given (has_bit c.kind 2) c.size; target = given (has_bit c.kind 4) (c.bits % 2 ^ 32) }
+reference_in c = record {
+  strong = has_bit c.kind 1;
+  wanted = given (has_bit c.kind 2) c.size;
+  target = given
+      (has_bit c.kind 4) (c.bits % 2 ^ 32);
+}
 
 abbrev pub content_of : Cell → Content
 content_of c =

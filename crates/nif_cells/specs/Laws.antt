@@ -35,12 +35,15 @@ abbrev pub TakesTarget : Node → ℕ → Option ℕ → Type 0
 TakesTarget n k target =
     (place : ℕ) (reference : Reference) → slice_get (refs n) k ≡ Some reference
     → slice_get (places_from 0 (contents n)) k ≡ Some place
-    → slice_set (tree_contents n) place (content.Reference (aimed target (view_of reference))) ≡ tree_contents (with_target k target n)
+    → slice_set (tree_contents n) place (content.Reference (aimed target (view_of reference)))
+    ≡ tree_contents (with_target k target n)
 
 -- what is open is read from its cells; of a run of bytes, what stands in full cells
 abbrev pub IsOpenKnown : List Level → Type 0
-IsOpenKnown levels = read_on nothing_read (building_contents levels) ≡ record { building = record { top = None; levels = in_cells levels }; line = None }
+IsOpenKnown levels = read_on nothing_read (building_contents levels)
+    ≡ record { building = record { top = None; levels = in_cells levels }; line = None }
 
 -- at most so many cells, those that the index and the ends will take among them
 abbrev pub IsFewOpen : List Level → Type 0
-IsFewOpen levels = length (building_contents levels) + length (places_from 0 (building_contents levels)) + length levels ≤ 2 * nodes_open levels + bytes_open levels / 8
+IsFewOpen levels = length (building_contents levels) + length (places_from 0 (building_contents levels)) + length levels
+    ≤ 2 * nodes_open levels + bytes_open levels / 8

@@ -126,8 +126,10 @@ pub closes : (level : Level) (outer : List Level)
     → slice_set (building_contents (level ∷ outer) ++ end_of level ∷ []) (length (building_contents outer))
     (closed_head level) ≡ building_contents outer ++ contents (node_of level)
 closes level outer =
-    ap (λ c. slice_set c (length (building_contents outer)) (closed_head level)) (append_assoc (building_contents outer) (head_of level ∷ held_contents level) (end_of level ∷ []))
-    ∙ set_at (building_contents outer) (head_of level) (held_contents level ++ end_of level ∷ []) (closed_head level) (length (building_contents outer)) refl
+    ap (λ c. slice_set c (length (building_contents outer)) (closed_head level))
+    (append_assoc (building_contents outer) (head_of level ∷ held_contents level) (end_of level ∷ []))
+    ∙ set_at (building_contents outer) (head_of level) (held_contents level ++ end_of level ∷ []) (closed_head level)
+    (length (building_contents outer)) refl
     ∙ ap (λ c. building_contents outer ++ c) (node-whole level)
 
 pub closed-cells : (level : Level) (outer : List Level) → AreHolding outer
@@ -149,10 +151,13 @@ pub places-close : (at : ℕ) (level : Level) (outer : List Level)
 places-close at level outer =
     let rest = held_contents level ++ end_of level ∷ [] in
     places-more at (building_contents outer) (contents (node_of level))
-    ∙ ap (λ c. places_from at (building_contents outer) ++ places_from (at + length (building_contents outer)) c) (sym (node-whole level))
-    ∙ ap (λ p. places_from at (building_contents outer) ++ p) (heads-alike level (at + length (building_contents outer)) rest)
+    ∙ ap (λ c. places_from at (building_contents outer) ++ places_from (at + length (building_contents outer)) c)
+    (sym (node-whole level))
+    ∙ ap (λ p. places_from at (building_contents outer) ++ p)
+    (heads-alike level (at + length (building_contents outer)) rest)
     ∙ sym (places-more at (building_contents outer) (head_of level ∷ rest))
-    ∙ ap (places_from at) (sym (append_assoc (building_contents outer) (head_of level ∷ held_contents level) (end_of level ∷ [])))
+    ∙ ap (places_from at) (sym (append_assoc (building_contents outer) (head_of level ∷ held_contents level)
+    (end_of level ∷ [])))
 
 -- a run of bytes goes on only inside of groups and rows
 pub placed-inside : (n : Node) (levels : List Level) → IsOpenInside levels → IsOpenInside (placed n levels).levels

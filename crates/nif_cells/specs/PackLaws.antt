@@ -55,10 +55,12 @@ by_eight : (words left n : ℕ) → 8 * words + left ≡ n → left < 8 → (wor
 by_eight words left n e l = (omega arith, omega arith)
 
 pub packed_left_is : (bytes : List ℕ) → (packed bytes).left ≡ length bytes % 8
-packed_left_is bytes = (by_eight (length (packed bytes).words) (packed bytes).left (length bytes) (from_count none bytes ∙ omega arith) (packed_left bytes)).1
+packed_left_is bytes = (by_eight (length (packed bytes).words) (packed bytes).left (length bytes)
+    (from_count none bytes ∙ omega arith) (packed_left bytes)).1
 
 pub packed_words : (bytes : List ℕ) → length (packed bytes).words ≡ length bytes / 8
-packed_words bytes = (by_eight (length (packed bytes).words) (packed bytes).left (length bytes) (from_count none bytes ∙ omega arith) (packed_left bytes)).0
+packed_words bytes = (by_eight (length (packed bytes).words) (packed bytes).left (length bytes)
+    (from_count none bytes ∙ omega arith) (packed_left bytes)).0
 
 -- the bits of the bytes that are left are no more
 record AreBits (p : Packed) : Type 0 where
@@ -68,7 +70,8 @@ record AreBits (p : Packed) : Type 0 where
 
 -- one more byte above those that are there
 above : (n byte k : ℕ) → n < 256 ^ k → byte < 256 → n + byte * 256 ^ k < 256 ^ suc k
-above n byte k h b = let fits : byte * 256 ^ k + n < 256 ^ k * 256 = mul-add-lt byte (256 ^ k) n 256 b h in omega (arith, pow-suc 256 k)
+above n byte k h b = let fits : byte * 256 ^ k + n
+    < 256 ^ k * 256 = mul-add-lt byte (256 ^ k) n 256 b h in omega (arith, pow-suc 256 k)
 
 more_bits : (p : Packed) (byte : ℕ) → byte < 256 → AreBits p → AreBits (packed_more p byte)
 more_bits p byte b h = elim (eqb_tells p.left 7) [
@@ -81,7 +84,8 @@ more_bits p byte b h = elim (eqb_tells p.left 7) [
 
 from_bits : (p : Packed) (bytes : List ℕ) → All (λ b. b < 256) bytes → AreBits p → AreBits (packed_from p bytes)
 from_bits p [] small h = h
-from_bits p (b ∷ rest) small h = from_bits (packed_more p b) rest (All-tail (λ b. b < 256) b rest small) (more_bits p b (All-head (λ b. b < 256) b rest small) h)
+from_bits p (b ∷ rest) small h = from_bits (packed_more p b) rest (All-tail (λ b. b < 256) b rest small)
+    (more_bits p b (All-head (λ b. b < 256) b rest small) h)
 
 none_bits : AreBits none
 none_bits = record { left = lit< tt; bits = lit< tt; words = All-nil (λ w. w < 2 ^ 64) }
@@ -126,7 +130,8 @@ more_whole p byte b h = elim (eqb_tells p.left 7) [
       ∙ ap (λ l. unpacked p.words ++ l) last
       ∙ sym (append_assoc (unpacked p.words) (low_first p.left p.bits) (byte ∷ []))
       )
-  | inr e ↦ rw e.0 (ap (λ l. unpacked p.words ++ l) (low_next p.left p.bits byte h.bits b) ∙ sym (append_assoc (unpacked p.words) (low_first p.left p.bits) (byte ∷ [])))
+  | inr e ↦ rw e.0 (ap (λ l. unpacked p.words ++ l) (low_next p.left p.bits byte h.bits b)
+      ∙ sym (append_assoc (unpacked p.words) (low_first p.left p.bits) (byte ∷ [])))
 ]
 
 from_whole : (p : Packed) (bytes : List ℕ) → All (λ b. b < 256) bytes → AreBits p

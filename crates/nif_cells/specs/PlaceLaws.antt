@@ -22,7 +22,9 @@ places-more at [] b = ap (λ n. places_from n b) (omega arith)
 places-more at (c ∷ rest) b =
     let tail : places_from (suc at) (rest ++ b) ≡ places_from (suc at) rest ++ places_from (at + suc (length rest)) b =
     places-more (suc at) rest b ∙ ap (λ n. places_from (suc at) rest ++ places_from n b) (omega arith) in
-    elim (is_reference c) as (λ t. (if t then at ∷ places_from (suc at) (rest ++ b) else places_from (suc at) (rest ++ b)) ≡ (if t then at ∷ places_from (suc at) rest else places_from (suc at) rest) ++ places_from (at + suc (length rest)) b) [
+    elim (is_reference c) as (λ t. (if t then at ∷ places_from (suc at) (rest ++ b)
+    else places_from (suc at) (rest ++ b)) ≡ (if t then at ∷ places_from (suc at) rest
+    else places_from (suc at) rest) ++ places_from (at + suc (length rest)) b) [
       | true ↦ ap (λ l. at ∷ l) tail
       | false ↦ tail
     ]
@@ -98,11 +100,19 @@ pub record IsThere (at : ℕ) (cs : List Content) (k p : ℕ) : Type 0 where
 
 further : (at : ℕ) (c : Content) (rest : List Content) (k m p : ℕ) → IsThere (suc at) rest k p
     → (slice_get (views rest) k ≡ slice_get (views (c ∷ rest)) m) → IsThere at (c ∷ rest) m p
-further at c rest k m p there same = record { steps = suc there.steps; view = there.view; place = there.place ∙ omega arith; cell = there.cell; kth = sym same ∙ there.kth }
+further at c rest k m p there same = record {
+  steps = suc there.steps;
+  view = there.view;
+  place = there.place
+      ∙ omega arith;
+  cell = there.cell;
+  kth = sym same ∙ there.kth;
+}
 
 pub there : (at : ℕ) (cs : List Content) (k p : ℕ) → slice_get (places_from at cs) k ≡ Some p → IsThere at cs k p
 there at [] k p is = absurd (cc)
-there at (content.Reference view ∷ rest) zero p is = let same : at ≡ p = cc in record { steps = 0; view = view; place = omega arith; cell = refl; kth = refl }
+there at (content.Reference view ∷ rest) zero p is = let same : at
+    ≡ p = cc in record { steps = 0; view = view; place = omega arith; cell = refl; kth = refl }
 there at (content.Reference view ∷ rest) (suc k) p is =
     further at (content.Reference view) rest k (suc k) p (there (suc at) rest k p is) refl
 there at (c ∷ rest) k p is = further at c rest k k p (there (suc at) rest k p is) refl
@@ -188,7 +198,8 @@ placeless-words [] = tt
 placeless-words (w ∷ ws) = placeless-words ws
 
 placeless-bytes : (bytes : List ℕ) → IsPlaceless (byte_cells bytes)
-placeless-bytes bytes = placeless-append (words (packed bytes).words) (Tail (packed bytes).left (packed bytes).bits ∷ []) (placeless-words (packed bytes).words) tt
+placeless-bytes bytes = placeless-append (words (packed bytes).words)
+    (Tail (packed bytes).left (packed bytes).bits ∷ []) (placeless-words (packed bytes).words) tt
 
 mutual
   placeless-node : (n : Node) → IsPlaceless (contents n)
@@ -223,8 +234,11 @@ last-place n has =
     let p = some (places_from 0 (contents n)) (length (refs n) - 1) (let e = places-count 0 n in omega arith) in
     let long = tree-length n in
     let where_ : length (tree_contents n) - 1 ≡ length (contents n) + (length (refs n) - 1) = omega arith in
-    let number : length (refs n) - 1 + 1 ≡ length (refs n) = omega arith in
-    (p.0, ap (λ k. slice_get (tree_contents n) k) where_ ∙ tree-index n (length (refs n) - 1) p.0 p.1 ∙ ap (λ m. Some (Place m p.0)) number)
+    let number : length (refs n) - 1 + 1 ≡ length (refs n) = omega arith in (
+      p.0,
+      ap (λ k. slice_get (tree_contents n) k) where_ ∙ tree-index n (length (refs n) - 1) p.0 p.1
+          ∙ ap (λ m. Some (Place m p.0)) number,
+    )
 
 pub no-index : (n : Node) → length (refs n) ≡ 0 → tree_contents n ≡ contents n
 no-index n none =

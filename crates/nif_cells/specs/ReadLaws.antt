@@ -29,7 +29,8 @@ within level outer = record { building = record { top = None; levels = level ∷
 
 -- full cells of bytes, of a run that is open
 pub read_words : (before : List ℕ) (outer : List Level) (ws : List ℕ)
-    → read_on (record { building = record { top = None; levels = InBytes before ∷ outer }; line = None }) (words ws) ≡ record { building = record { top = None; levels = InBytes (before ++ unpacked ws) ∷ outer }; line = None }
+    → read_on (record { building = record { top = None; levels = InBytes before ∷ outer }; line = None }) (words ws)
+    ≡ record { building = record { top = None; levels = InBytes (before ++ unpacked ws) ∷ outer }; line = None }
 read_words before outer [] = ap (λ b. within (InBytes b) outer) (sym (append-nil before))
 read_words before outer (w ∷ ws) =
     read_words (before ++ low_first 8 w) outer ws
@@ -48,14 +49,16 @@ line_words b first (w ∷ ws) =
 bytes_whole : (bytes : List ℕ) (b : Building) → All (λ b. b < 256) bytes
     → read_on (clear (opened (InBytes []) b.levels)) (byte_cells bytes) ≡ clear (placed (Bytes bytes) b.levels)
 bytes_whole bytes b small =
-    read_more (clear (opened (InBytes []) b.levels)) (words (packed bytes).words) (Tail (packed bytes).left (packed bytes).bits ∷ [])
+    read_more (clear (opened (InBytes []) b.levels)) (words (packed bytes).words)
+    (Tail (packed bytes).left (packed bytes).bits ∷ [])
     ∙ ap (λ r. next_read (Tail (packed bytes).left (packed bytes).bits) r) (read_words [] b.levels (packed bytes).words)
     ∙ ap (λ l. clear (placed (Bytes l) b.levels)) (unpacked_whole bytes small)
 
 line_whole : (bytes : List ℕ) (b : Building) → All (λ b. b < 256) bytes
     → read_on (record { building = b; line = Some [] }) (byte_cells bytes) ≡ clear (placed (Line bytes) b.levels)
 line_whole bytes b small =
-    read_more (record { building = b; line = Some [] }) (words (packed bytes).words) (Tail (packed bytes).left (packed bytes).bits ∷ [])
+    read_more (record { building = b; line = Some [] }) (words (packed bytes).words)
+    (Tail (packed bytes).left (packed bytes).bits ∷ [])
     ∙ ap (λ r. next_read (Tail (packed bytes).left (packed bytes).bits) r) (line_words b [] (packed bytes).words)
     ∙ ap (λ l. clear (placed (Line l) b.levels)) (unpacked_whole bytes small)
 
@@ -112,20 +115,38 @@ mutual
       ∙ ap (λ m. clear (placed (Row m) b.levels)) (joined_whole items)
 
   pub read_group : (first more : Members) (outer : List Level) → HasBytesIn more
-      → read_on (record { building = record { top = None; levels = InGroup first ∷ outer }; line = None }) (contents_in more) ≡ record { building = record { top = None; levels = InGroup (joined first more) ∷ outer }; line = None }
+      → read_on (record { building = record { top = None; levels = InGroup first ∷ outer }; line = None })
+      (contents_in more) ≡ record {
+        building = record {
+          top = None;
+          levels = InGroup
+              (joined first more) ∷ outer;
+        };
+        line = None;
+      }
   read_group first End outer small = refl
   read_group first (Here n rest) outer small =
       read_more (within (InGroup first) outer) (contents n) (contents_in rest)
-      ∙ ap (λ r. read_on r (contents_in rest)) (node_whole n (record { top = None; levels = InGroup first ∷ outer }) small.0)
+      ∙ ap (λ r. read_on r (contents_in rest)) (node_whole n
+      (record { top = None; levels = InGroup first ∷ outer }) small.0)
       ∙ read_group (behind first n) rest outer small.1
   read_group first (Absent rest) outer small = read_group (absent_behind first) rest outer small
 
   pub read_row : (first more : Members) (outer : List Level) → HasBytesIn more
-      → read_on (record { building = record { top = None; levels = InRow first ∷ outer }; line = None }) (contents_in more) ≡ record { building = record { top = None; levels = InRow (joined first more) ∷ outer }; line = None }
+      → read_on (record { building = record { top = None; levels = InRow first ∷ outer }; line = None })
+      (contents_in more) ≡ record {
+        building = record {
+          top = None;
+          levels = InRow
+              (joined first more) ∷ outer;
+        };
+        line = None;
+      }
   read_row first End outer small = refl
   read_row first (Here n rest) outer small =
       read_more (within (InRow first) outer) (contents n) (contents_in rest)
-      ∙ ap (λ r. read_on r (contents_in rest)) (node_whole n (record { top = None; levels = InRow first ∷ outer }) small.0)
+      ∙ ap (λ r. read_on r (contents_in rest)) (node_whole n
+      (record { top = None; levels = InRow first ∷ outer }) small.0)
       ∙ read_row (behind first n) rest outer small.1
   read_row first (Absent rest) outer small = read_row (absent_behind first) rest outer small
 

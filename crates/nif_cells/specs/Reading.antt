@@ -30,9 +30,17 @@ last_read bytes b None = record { building = closed (lengthened bytes b.levels).
 last_read bytes b (Some first) = record { building = placed (Line (first ++ bytes)) b.levels; line = None }
 
 abbrev pub next_read : Content → Reading → Reading
-next_read (Number width little bits) r = record { building = placed (Num width little bits) r.building.levels; line = r.line }
+next_read (Number width little bits) r = record {
+  building = placed
+      (Num width little bits) r.building.levels;
+  line = r.line;
+}
 next_read (content.Line len) r = record { building = r.building; line = Some [] }
-next_read (content.Reference view) r = record { building = placed (Ref view.strong view.wanted view.target) r.building.levels; line = r.line }
+next_read (content.Reference view) r = record {
+  building = placed
+      (Ref view.strong view.wanted view.target) r.building.levels;
+  line = r.line;
+}
 next_read (content.Text index) r = record { building = placed (Text index) r.building.levels; line = r.line }
 next_read (content.Bytes len) r = record { building = opened (InBytes []) r.building.levels; line = r.line }
 next_read (Word bits) r = more_read (low_first 8 bits) r.building r.line

@@ -27,7 +27,14 @@ mutual
   pub members-cells : (members : Members)
       → length (contents_in members) + length (refs_in members) ≡ own_cells_in members
   members-cells End = omega arith
-  members-cells (Here n rest) = omega (arith, length-append (contents n) (contents_in rest), length-append (refs n) (refs_in rest), node-cells n, members-cells rest)
+  members-cells (Here n rest) = omega (
+    arith,
+    length-append (contents n) (contents_in rest),
+    length-append (refs n)
+        (refs_in rest),
+    node-cells n,
+    members-cells rest,
+  )
   members-cells (Absent rest) = omega (arith, members-cells rest)
 
 pub tree-cells : (n : Node) → length (tree_contents n) ≡ own_cells n
@@ -40,7 +47,8 @@ both a b c d m n ha hb = omega arith
 mutual
   pub cells-bound : (n : Node) → own_cells n ≤ 2 * nodes n + bytes_of n / 8
   cells-bound (Num width little bits) = omega arith
-  cells-bound (Line bytes) = let long : bytes_of (Line bytes) ≡ length bytes + 1 = length-append bytes (0x0A ∷ []) in omega arith
+  cells-bound (Line bytes) = let long : bytes_of (Line bytes)
+      ≡ length bytes + 1 = length-append bytes (0x0A ∷ []) in omega arith
   cells-bound (Ref strong wanted target) = omega arith
   cells-bound (Text index) = omega arith
   cells-bound (Bytes bytes) = omega arith
@@ -51,8 +59,10 @@ mutual
       → own_cells_in members ≤ 2 * nodes_in members + length (texts Little members) / 8
   members-bound End = omega arith
   members-bound (Here n rest) =
-      subst (λ l. own_cells n + own_cells_in rest ≤ 2 * (nodes n + nodes_in rest) + l / 8) (sym (length-append (text Little n) (texts Little rest)))
-      (both (own_cells n) (own_cells_in rest) (nodes n) (nodes_in rest) (bytes_of n) (length (texts Little rest)) (cells-bound n) (members-bound rest))
+      subst (λ l. own_cells n + own_cells_in rest ≤ 2 * (nodes n + nodes_in rest) + l / 8)
+      (sym (length-append (text Little n) (texts Little rest)))
+      (both (own_cells n) (own_cells_in rest) (nodes n) (nodes_in rest) (bytes_of n) (length (texts Little rest))
+      (cells-bound n) (members-bound rest))
   members-bound (Absent rest) = omega (arith, members-bound rest)
 
 pub tree-bound : (n : Node) → length (tree_contents n) ≤ 2 * nodes n + bytes_of n / 8
@@ -71,12 +81,24 @@ nodes-absent_behind (Absent rest) = omega (arith, nodes-absent_behind rest)
 pub bytes-behind : (first : Members) (n : Node)
     → length (texts Little (behind first n)) ≡ length (texts Little first) + bytes_of n
 bytes-behind End n = omega (arith, length-append (text Little n) [])
-bytes-behind (Here m rest) n = omega (arith, length-append (text Little m) (texts Little (behind rest n)), length-append (text Little m) (texts Little rest), bytes-behind rest n)
+bytes-behind (Here m rest) n = omega (
+  arith,
+  length-append (text Little m) (texts Little (behind rest n)),
+  length-append
+      (text Little m) (texts Little rest),
+  bytes-behind rest n,
+)
 bytes-behind (Absent rest) n = bytes-behind rest n
 
 pub bytes-absent_behind : (first : Members) → length (texts Little (absent_behind first)) ≡ length (texts Little first)
 bytes-absent_behind End = refl
-bytes-absent_behind (Here m rest) = omega (arith, length-append (text Little m) (texts Little (absent_behind rest)), length-append (text Little m) (texts Little rest), bytes-absent_behind rest)
+bytes-absent_behind (Here m rest) = omega (
+  arith,
+  length-append (text Little m)
+      (texts Little (absent_behind rest)),
+  length-append (text Little m) (texts Little rest),
+  bytes-absent_behind rest,
+)
 bytes-absent_behind (Absent rest) = bytes-absent_behind rest
 
 pub count-behind : (first : Members) (n : Node) → count (behind first n) ≡ suc (count first)
@@ -114,10 +136,15 @@ open-cells (level ∷ outer) =
     let rest = open-cells outer in
     let own = head_of level ∷ held_contents level in
     let places : length (places_from 0 (building_contents outer ++ own)) ≡ length (places_from 0 (building_contents outer)) + length (places_from (0 + length (building_contents outer)) own) =
-    ap length (places-more 0 (building_contents outer) own) ∙ length-append (places_from 0 (building_contents outer)) (places_from (0 + length (building_contents outer)) own) in
-    sum (length (building_contents outer)) (length own) (length (building_contents outer ++ own)) (length (places_from 0 (building_contents outer)))
-    (length (places_from (0 + length (building_contents outer)) own)) (length (places_from 0 (building_contents outer ++ own))) (length outer)
-    (nodes (node_of level)) (nodes_open outer) (bytes_of (node_of level)) (bytes_open outer) (length-append (building_contents outer) own) places here rest
+    ap length (places-more 0 (building_contents outer) own)
+    ∙ length-append (places_from 0 (building_contents outer))
+    (places_from (0 + length (building_contents outer)) own) in
+    sum (length (building_contents outer)) (length own) (length (building_contents outer ++ own))
+    (length (places_from 0 (building_contents outer)))
+    (length (places_from (0 + length (building_contents outer)) own))
+    (length (places_from 0 (building_contents outer ++ own))) (length outer)
+    (nodes (node_of level)) (nodes_open outer) (bytes_of (node_of level)) (bytes_open outer)
+    (length-append (building_contents outer) own) places here rest
   where
     sum : (a b ab p q pq l m n x y : ℕ) → ab ≡ a + b → pq ≡ p + q → b + q + 1 ≤ 2 * m + x / 8
         → a + p + l ≤ 2 * n + y / 8 → ab + pq + suc l ≤ 2 * (m + n) + (x + y) / 8

@@ -62,7 +62,9 @@ aimed-set target at (c ∷ rest) k (suc j) view place is =
 target-count : (members : Members) (k : ℕ) (target : Option ℕ) → count (with_target_in k target members) ≡ count members
 target-count End k target = refl
 target-count (Here n rest) k target =
-    elim (nat_lt k (length (refs n))) as (λ t. count (if t then Here (with_target k target n) rest else Here n (with_target_in (k - length (refs n)) target rest)) ≡ 1 + count rest) [
+    elim (nat_lt k (length (refs n))) as (λ t. count
+    (if t then Here (with_target k target n) rest else Here n (with_target_in (k - length (refs n)) target rest))
+    ≡ 1 + count rest) [
       | true ↦ refl
       | false ↦ ap (λ c. 1 + c) (target-count rest (k - length (refs n)) target)
     ]
@@ -84,23 +86,30 @@ mutual
   aimed-node (Text index) k target l = absurd (omega arith)
   aimed-node (Bytes bytes) k target l = absurd (omega arith)
   aimed-node (Group members) k target l =
-      ap (λ r. content.Group (count members) ∷ r) (aimed-front target (contents_in members) (content.End ∷ []) k (let e = views_in-length members in omega arith))
-      ∙ ap₂ (λ c r. content.Group c ∷ r ++ content.End ∷ []) (sym (target-count members k target)) (aimed-members members k target l)
+      ap (λ r. content.Group (count members) ∷ r) (aimed-front target (contents_in members) (content.End ∷ []) k
+      (let e = views_in-length members in omega arith))
+      ∙ ap₂ (λ c r. content.Group c ∷ r ++ content.End ∷ []) (sym (target-count members k target))
+      (aimed-members members k target l)
   aimed-node (Row items) k target l =
-      ap (λ r. content.Row (count items) ∷ r) (aimed-front target (contents_in items) (content.End ∷ []) k (let e = views_in-length items in omega arith))
-      ∙ ap₂ (λ c r. content.Row c ∷ r ++ content.End ∷ []) (sym (target-count items k target)) (aimed-members items k target l)
+      ap (λ r. content.Row (count items) ∷ r) (aimed-front target (contents_in items) (content.End ∷ []) k
+      (let e = views_in-length items in omega arith))
+      ∙ ap₂ (λ c r. content.Row c ∷ r ++ content.End ∷ []) (sym (target-count items k target))
+      (aimed-members items k target l)
 
   aimed-members : (members : Members) (k : ℕ) (target : Option ℕ) → k < length (refs_in members)
       → aimed_at target (contents_in members) k ≡ contents_in (with_target_in k target members)
   aimed-members End k target l = absurd (omega arith)
   aimed-members (Here n rest) k target l = elim (leb_tells (suc k) (length (refs n))) [
     | inl e ↦ rw e.0 (
-        aimed-front target (contents n) (contents_in rest) k (let same = views-length n in let below = e.1 in omega arith)
+        aimed-front target (contents n) (contents_in rest) k
+        (let same = views-length n in let below = e.1 in omega arith)
         ∙ ap (λ c. c ++ contents_in rest) (aimed-node n k target (let below = e.1 in omega arith))
         )
     | inr e ↦ rw e.0 (
-        aimed-behind target (contents n) (contents_in rest) k (k - length (refs n)) (let same = views-length n in let above = e.1 in omega arith)
-        ∙ ap (λ c. contents n ++ c) (aimed-members rest (k - length (refs n)) target (let above = e.1 in omega (arith, length-append (refs n) (refs_in rest))))
+        aimed-behind target (contents n) (contents_in rest) k (k - length (refs n))
+        (let same = views-length n in let above = e.1 in omega arith)
+        ∙ ap (λ c. contents n ++ c) (aimed-members rest (k - length (refs n)) target
+        (let above = e.1 in omega (arith, length-append (refs n) (refs_in rest))))
         )
   ]
   aimed-members (Absent rest) k target l = ap (λ r. content.Absent ∷ r) (aimed-members rest k target l)
@@ -112,10 +121,12 @@ below (y ∷ xs) (suc k) x e = let more = below xs k x e in omega arith
 
 pub target-contents : (n : Node) (k p : ℕ) (target : Option ℕ) (view : RefView)
     → slice_get (places_from 0 (contents n)) k ≡ Some p → slice_get (contents n) p ≡ Some (content.Reference view)
-    → slice_set (contents n) p (content.Reference (record { strong = view.strong; wanted = view.wanted; target = target })) ≡ contents (with_target k target n)
+    → slice_set (contents n) p (content.Reference
+    (record { strong = view.strong; wanted = view.wanted; target = target })) ≡ contents (with_target k target n)
 target-contents n k p target view at is =
     aimed-set target 0 (contents n) k p view (at ∙ ap (λ m. Some m) (omega arith)) is
-    ∙ aimed-node n k target (let has = below (places_from 0 (contents n)) k p at in let all = places-count 0 n in omega arith)
+    ∙ aimed-node n k target (let has = below (places_from 0
+    (contents n)) k p at in let all = places-count 0 n in omega arith)
 
 -- as many cells as before, and references at the same places
 mutual
@@ -126,16 +137,43 @@ mutual
   target-length (Ref strong wanted old) k target = refl
   target-length (Text index) k target = refl
   target-length (Bytes bytes) k target = refl
-  target-length (Group members) k target = omega (arith, length-append (contents_in (with_target_in k target members)) (content.End ∷ []), length-append (contents_in members) (content.End ∷ []), target_in-length members k target)
-  target-length (Row items) k target = omega (arith, length-append (contents_in (with_target_in k target items)) (content.End ∷ []), length-append (contents_in items) (content.End ∷ []), target_in-length items k target)
+  target-length (Group members) k target = omega (
+    arith,
+    length-append (contents_in (with_target_in k target members)) (content.End ∷ []),
+    length-append
+        (contents_in members) (content.End ∷ []),
+    target_in-length members k target,
+  )
+  target-length (Row items) k target = omega (
+    arith,
+    length-append (contents_in (with_target_in k target items))
+        (content.End ∷ []),
+    length-append (contents_in items) (content.End ∷ []),
+    target_in-length items k target,
+  )
 
   target_in-length : (members : Members) (k : ℕ) (target : Option ℕ)
       → length (contents_in (with_target_in k target members)) ≡ length (contents_in members)
   target_in-length End k target = refl
   target_in-length (Here n rest) k target =
-      elim (nat_lt k (length (refs n))) as (λ t. length (contents_in (if t then Here (with_target k target n) rest else Here n (with_target_in (k - length (refs n)) target rest))) ≡ length (contents n ++ contents_in rest)) [
-        | true ↦ omega (arith, length-append (contents (with_target k target n)) (contents_in rest), length-append (contents n) (contents_in rest), target-length n k target)
-        | false ↦ omega (arith, length-append (contents n) (contents_in (with_target_in (k - length (refs n)) target rest)), length-append (contents n) (contents_in rest), target_in-length rest (k - length (refs n)) target)
+      elim (nat_lt k (length (refs n))) as (λ t. length
+      (contents_in (if t then Here (with_target k target n) rest
+      else Here n (with_target_in (k - length (refs n)) target rest))) ≡ length (contents n ++ contents_in rest)) [
+        | true ↦ omega (
+          arith,
+          length-append (contents (with_target k target n)) (contents_in rest),
+          length-append
+              (contents n) (contents_in rest),
+          target-length n k target,
+        )
+        | false ↦ omega (
+          arith,
+          length-append (contents n)
+              (contents_in (with_target_in (k - length (refs n)) target rest)),
+          length-append (contents n)
+              (contents_in rest),
+          target_in-length rest (k - length (refs n)) target,
+        )
       ]
   target_in-length (Absent rest) k target = ap suc (target_in-length rest k target)
 
@@ -156,25 +194,37 @@ mutual
   target-places (Text index) k at target = refl
   target-places (Bytes bytes) k at target = refl
   target-places (Group members) k at target =
-      places-beside (suc at) (contents_in (with_target_in k target members)) (contents_in members) (content.End ∷ []) (content.End ∷ []) (target_in-length members k target) (target_in-places members k (suc at) target) (λ from. refl)
+      places-beside (suc at) (contents_in (with_target_in k target members)) (contents_in members) (content.End ∷ [])
+      (content.End ∷ []) (target_in-length members k target) (target_in-places members k (suc at) target)
+      (λ from. refl)
   target-places (Row items) k at target =
-      places-beside (suc at) (contents_in (with_target_in k target items)) (contents_in items) (content.End ∷ []) (content.End ∷ []) (target_in-length items k target) (target_in-places items k (suc at) target) (λ from. refl)
+      places-beside (suc at) (contents_in (with_target_in k target items)) (contents_in items) (content.End ∷ [])
+      (content.End ∷ []) (target_in-length items k target) (target_in-places items k (suc at) target) (λ from. refl)
 
   target_in-places : (members : Members) (k at : ℕ) (target : Option ℕ)
       → places_from at (contents_in (with_target_in k target members)) ≡ places_from at (contents_in members)
   target_in-places End k at target = refl
   target_in-places (Here n rest) k at target =
-      elim (nat_lt k (length (refs n))) as (λ t. places_from at (contents_in (if t then Here (with_target k target n) rest else Here n (with_target_in (k - length (refs n)) target rest))) ≡ places_from at (contents n ++ contents_in rest)) [
-        | true ↦ places-beside at (contents (with_target k target n)) (contents n) (contents_in rest) (contents_in rest) (target-length n k target) (target-places n k at target) (λ from. refl)
-        | false ↦ places-beside at (contents n) (contents n) (contents_in (with_target_in (k - length (refs n)) target rest)) (contents_in rest) refl refl (λ from. target_in-places rest (k - length (refs n)) from target)
+      elim (nat_lt k (length (refs n))) as (λ t. places_from at
+      (contents_in (if t then Here (with_target k target n) rest
+      else Here n (with_target_in (k - length (refs n)) target rest)))
+      ≡ places_from at (contents n ++ contents_in rest)) [
+        | true ↦ places-beside at (contents (with_target k target n)) (contents n) (contents_in rest) (contents_in rest)
+            (target-length n k target) (target-places n k at target) (λ from. refl)
+        | false ↦ places-beside at (contents n) (contents n)
+            (contents_in (with_target_in (k - length (refs n)) target rest)) (contents_in rest) refl refl
+            (λ from. target_in-places rest (k - length (refs n)) from target)
       ]
   target_in-places (Absent rest) k at target = target_in-places rest k (suc at) target
 
 pub target-tree : (n : Node) (k p : ℕ) (target : Option ℕ) (view : RefView)
     → slice_get (places_from 0 (contents n)) k ≡ Some p → slice_get (contents n) p ≡ Some (content.Reference view)
-    → slice_set (tree_contents n) p (content.Reference (record { strong = view.strong; wanted = view.wanted; target = target })) ≡ tree_contents (with_target k target n)
+    → slice_set (tree_contents n) p (content.Reference
+    (record { strong = view.strong; wanted = view.wanted; target = target }))
+    ≡ tree_contents (with_target k target n)
 target-tree n k p target view at is =
-    set-append_left (contents n) (index_from 0 (places_from 0 (contents n))) p (content.Reference (aimed target view)) (below (contents n) p (content.Reference view) is)
+    set-append_left (contents n) (index_from 0 (places_from 0 (contents n))) p (content.Reference (aimed target view))
+    (below (contents n) p (content.Reference view) is)
     ∙ ap₂ (λ c l. c ++ index_from 0 l) (target-contents n k p target view at is) (sym (target-places n k 0 target))
 
 mutual
@@ -191,7 +241,9 @@ mutual
       → HasBytesIn (with_target_in k target members)
   target_in-small End k target small = small
   target_in-small (Here n rest) k target small =
-      elim (nat_lt k (length (refs n))) as (λ t. HasBytesIn (if t then Here (with_target k target n) rest else Here n (with_target_in (k - length (refs n)) target rest))) [
+      elim (nat_lt k (length (refs n))) as (λ t. HasBytesIn
+      (if t then Here (with_target k target n) rest
+      else Here n (with_target_in (k - length (refs n)) target rest))) [
         | true ↦ (target-small n k target small.0, small.1)
         | false ↦ (small.0, target_in-small rest (k - length (refs n)) target small.1)
       ]
@@ -211,7 +263,9 @@ mutual
       → nodes_in (with_target_in k target members) ≡ nodes_in members
   target_in-nodes End k target = refl
   target_in-nodes (Here n rest) k target =
-      elim (nat_lt k (length (refs n))) as (λ t. nodes_in (if t then Here (with_target k target n) rest else Here n (with_target_in (k - length (refs n)) target rest)) ≡ nodes n + nodes_in rest) [
+      elim (nat_lt k (length (refs n))) as (λ t. nodes_in
+      (if t then Here (with_target k target n) rest else Here n (with_target_in (k - length (refs n)) target rest))
+      ≡ nodes n + nodes_in rest) [
         | true ↦ ap (λ c. c + nodes_in rest) (target-nodes n k target)
         | false ↦ ap (λ c. nodes n + c) (target_in-nodes rest (k - length (refs n)) target)
       ]
@@ -231,14 +285,32 @@ mutual
       → length (texts Little (with_target_in k target members)) ≡ length (texts Little members)
   target_in-bytes_of End k target = refl
   target_in-bytes_of (Here n rest) k target =
-      elim (nat_lt k (length (refs n))) as (λ t. length (texts Little (if t then Here (with_target k target n) rest else Here n (with_target_in (k - length (refs n)) target rest))) ≡ length (text Little n ++ texts Little rest)) [
-        | true ↦ omega (arith, length-append (text Little (with_target k target n)) (texts Little rest), length-append (text Little n) (texts Little rest), target-bytes_of n k target)
-        | false ↦ omega (arith, length-append (text Little n) (texts Little (with_target_in (k - length (refs n)) target rest)), length-append (text Little n) (texts Little rest), target_in-bytes_of rest (k - length (refs n)) target)
+      elim (nat_lt k (length (refs n))) as (λ t. length
+      (texts Little (if t then Here (with_target k target n) rest
+      else Here n (with_target_in (k - length (refs n)) target rest)))
+      ≡ length (text Little n ++ texts Little rest)) [
+        | true ↦ omega (
+          arith,
+          length-append (text Little (with_target k target n)) (texts Little rest),
+          length-append
+              (text Little n) (texts Little rest),
+          target-bytes_of n k target,
+        )
+        | false ↦ omega (
+          arith,
+          length-append (text Little n)
+              (texts Little (with_target_in (k - length (refs n)) target rest)),
+          length-append (text Little n)
+              (texts Little rest),
+          target_in-bytes_of rest (k - length (refs n)) target,
+        )
       ]
   target_in-bytes_of (Absent rest) k target = target_in-bytes_of rest k target
 
 -- what of each reference doesn't go by its target stays
-module _ {A : Type 0} (f : Reference → A) (same : (strong : Bool) (wanted old new : Option ℕ) → f (record { strong = strong; wanted = wanted; target = old }) ≡ f (record { strong = strong; wanted = wanted; target = new })) where
+module _ {A : Type 0} (f : Reference → A) (same : (strong : Bool) (wanted old new : Option ℕ)
+    → f (record { strong = strong; wanted = wanted; target = old })
+    ≡ f (record { strong = strong; wanted = wanted; target = new })) where
   mutual
     pub target-kept : (n : Node) (k : ℕ) (target : Option ℕ) → map f (refs (with_target k target n)) ≡ map f (refs n)
     target-kept (Num width little bits) k target = refl
@@ -253,7 +325,9 @@ module _ {A : Type 0} (f : Reference → A) (same : (strong : Bool) (wanted old 
         → map f (refs_in (with_target_in k target members)) ≡ map f (refs_in members)
     target_in-kept End k target = refl
     target_in-kept (Here n rest) k target =
-        elim (nat_lt k (length (refs n))) as (λ t. map f (refs_in (if t then Here (with_target k target n) rest else Here n (with_target_in (k - length (refs n)) target rest))) ≡ map f (refs n ++ refs_in rest)) [
+        elim (nat_lt k (length (refs n))) as (λ t. map f
+        (refs_in (if t then Here (with_target k target n) rest
+        else Here n (with_target_in (k - length (refs n)) target rest))) ≡ map f (refs n ++ refs_in rest)) [
           | true ↦ map-append f (refs (with_target k target n)) (refs_in rest)
               ∙ ap (λ l. l ++ map f (refs_in rest)) (target-kept n k target)
               ∙ sym (map-append f (refs n) (refs_in rest))
@@ -274,7 +348,8 @@ target-wanted n k target = target-kept (λ r. r.wanted) (λ strong wanted old ne
 -- the references, one of them with another target
 mutual
   pub target-refs : (n : Node) (k : ℕ) (target : Option ℕ) (r : Reference) → slice_get (refs n) k ≡ Some r
-      → refs (with_target k target n) ≡ slice_set (refs n) k (record { strong = r.strong; wanted = r.wanted; target = target })
+      → refs (with_target k target n) ≡ slice_set (refs n) k
+      (record { strong = r.strong; wanted = r.wanted; target = target })
   target-refs (Num width little bits) k target r is = absurd (cc)
   target-refs (Line bytes) k target r is = absurd (cc)
   target-refs (Ref strong wanted old) zero target r is =
@@ -288,14 +363,16 @@ mutual
 
   target_in-refs : (members : Members) (k : ℕ) (target : Option ℕ) (r : Reference)
       → slice_get (refs_in members) k ≡ Some r
-      → refs_in (with_target_in k target members) ≡ slice_set (refs_in members) k (record { strong = r.strong; wanted = r.wanted; target = target })
+      → refs_in (with_target_in k target members) ≡ slice_set (refs_in members) k
+      (record { strong = r.strong; wanted = r.wanted; target = target })
   target_in-refs End k target r is = absurd (cc)
   target_in-refs (Here n rest) k target r is = elim (leb_tells (suc k) (length (refs n))) [
     | inl e ↦
         let within : k < length (refs n) = let l = e.1 in omega arith in
         rw e.0 (
         ap (λ l. l ++ refs_in rest) (target-refs n k target r (sym (get-before (refs n) (refs_in rest) k within) ∙ is))
-        ∙ sym (set-append_left (refs n) (refs_in rest) k (record { strong = r.strong; wanted = r.wanted; target = target }) within)
+        ∙ sym (set-append_left (refs n) (refs_in rest) k
+        (record { strong = r.strong; wanted = r.wanted; target = target }) within)
         )
     | inr e ↦
         let past : length (refs n) ≤ k = let l = e.1 in omega arith in
@@ -305,7 +382,8 @@ mutual
         ∙ ap (λ m. slice_get (refs n ++ refs_in rest) m) there_ ∙ is in
         rw e.0 (
         ap (λ l. refs n ++ l) (target_in-refs rest (k - length (refs n)) target r tail)
-        ∙ sym (set-append_right (refs n) (refs_in rest) (length (refs n)) k (record { strong = r.strong; wanted = r.wanted; target = target }) refl past)
+        ∙ sym (set-append_right (refs n) (refs_in rest) (length (refs n)) k
+        (record { strong = r.strong; wanted = r.wanted; target = target }) refl past)
         )
   ]
   target_in-refs (Absent rest) k target r is = target_in-refs rest k target r is

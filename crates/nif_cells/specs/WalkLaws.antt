@@ -84,7 +84,8 @@ headed-words [] = tt
 headed-words (w ∷ ws) = (tt, headed-words ws)
 
 pub headed-bytes : (bytes : List ℕ) → IsHeaded (byte_cells bytes)
-headed-bytes bytes = headed-append (words (packed bytes).words) (Tail (packed bytes).left (packed bytes).bits ∷ []) (headed-words (packed bytes).words) (tt, tt)
+headed-bytes bytes = headed-append (words (packed bytes).words) (Tail (packed bytes).left (packed bytes).bits ∷ [])
+    (headed-words (packed bytes).words) (tt, tt)
 
 mutual
   pub headed-node : (n : Node) → HasBytes n → IsHeaded (contents n)
@@ -109,7 +110,8 @@ headed-index number [] = tt
 headed-index number (place ∷ rest) = (tt, headed-index (suc number) rest)
 
 pub headed-tree : (n : Node) → HasBytes n → IsHeaded (tree_contents n)
-headed-tree n small = headed-append (contents n) (index_from 0 (places_from 0 (contents n))) (headed-node n small) (headed-index 0 (places_from 0 (contents n)))
+headed-tree n small = headed-append (contents n) (index_from 0 (places_from 0 (contents n))) (headed-node n small)
+    (headed-index 0 (places_from 0 (contents n)))
 
 pub headed-drop : (k : ℕ) (cs : List Content) → IsHeaded cs → IsHeaded (drop k cs)
 headed-drop zero cs h = h

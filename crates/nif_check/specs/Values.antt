@@ -22,16 +22,19 @@ is_declared name fields = list_any (λ f. bytes_eq name f.name) fields
 -- A path has a value behind these earlier fields: no field has its first name and it is a name of the header, or one
 -- has, and each that has it leads along the other names to numbers.
 pub data HasValue (schema : Schema) (earlier : List Field) : List Name → Type 0 where
-  OfHeader : (first : Name) (names : List Name) → is_declared first earlier ≡ false → IsTrue (is_header_path (first ∷ names))
+  OfHeader : (first : Name) (names : List Name) → is_declared first earlier ≡ false
+      → IsTrue (is_header_path (first ∷ names))
       → HasValue schema earlier (first ∷ names)
   OfFields : (first : Name) (names : List Name) → is_declared first earlier ≡ true
-      → ((f : Field) → Contains earlier f → bytes_eq first f.name ≡ true → Leads schema (OfField f) names) → HasValue schema earlier (first ∷ names)
+      → ((f : Field) → Contains earlier f → bytes_eq first f.name ≡ true → Leads schema (OfField f) names)
+      → HasValue schema earlier (first ∷ names)
 
 -- An expression has a value: it was read, and each of its paths has one.
 abbrev pub HasValues : Schema → List Field → Option Formula → Type 0
 HasValues schema earlier None = ⊤
 HasValues schema earlier (Some Bad) = ⊥
-HasValues schema earlier (Some (Read of)) = (path : List Name) → Contains (paths_of of) path → HasValue schema earlier path
+HasValues schema earlier (Some (Read of)) =
+    (path : List Name) → Contains (paths_of of) path → HasValue schema earlier path
 
 -- It is the bare name of earlier fields that are all one-dimensional arrays of numbers.
 pub record NamesArrays (schema : Schema) (earlier : List Field) (width : Option Formula) : Type 0 where
@@ -46,4 +49,5 @@ pub record IsReadable (schema : Schema) (earlier : List Field) (f : Field) : Typ
   pub cond : HasValues schema earlier f.cond
   pub arg : HasValues schema earlier f.arg
   pub length : HasValues schema earlier f.length
-  pub width : HasValues schema earlier (width_where f.length f.width) ⊎ NamesArrays schema earlier (width_where f.length f.width)
+  pub width : HasValues schema earlier (width_where f.length f.width)
+  ⊎ NamesArrays schema earlier (width_where f.length f.width)

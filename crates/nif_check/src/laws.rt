@@ -12,12 +12,14 @@ ghost use Rattle.nif_check.specs.Values.{IsReadable};
 /// arrays of numbers.
 pub fn open_types_have_values()
     ensures { (schema : Schema) (number : ℕ) (d : Declaration) (before : List Field) (f : Field) (behind : List Field)
-        → IsOpen schema number → slice_get schema number ≡ Some d → d.fields ≡ before ++ f ∷ behind → IsReadable schema (line_above schema number ++ before) f }
+        → IsOpen schema number → slice_get schema number ≡ Some d → d.fields ≡ before ++ f ∷ behind
+        → IsReadable schema (line_above schema number ++ before) f }
 {}
 
 /// A type has one reason, or none.
 pub fn one_reason()
-    ensures { (schema : Schema) (number : ℕ) (a b : Option Closed) → IsReason schema number a → IsReason schema number b → a ≡ b }
+    ensures { (schema : Schema) (number : ℕ) (a b : Option Closed) → IsReason schema number a → IsReason schema number b
+        → a ≡ b }
 {}
 
 /// A schema that keeps all rules has no first rule that fails.

@@ -15,7 +15,8 @@ use std::alloc::Global;
 /// Marks each declaration that has a reason of its own.
 fn marks_of(alloc: Global, own: &[Option<Closed>]) -> Result<Vec<bool>, NoMemory>
     ensures count { IfOk result (λ marks. length marks.items ≡ length own.now) }
-    ensures each { IfOk result (λ marks. (number : ℕ) (reason : Option Closed) → slice_get own.now number ≡ Some reason → slice_get marks.items number ≡ Some (is_some reason)) }
+    ensures each { IfOk result (λ marks. (number : ℕ) (reason : Option Closed) → slice_get own.now number ≡ Some reason
+        → slice_get marks.items number ≡ Some (is_some reason)) }
 {
     let mut marks = Vec::new(alloc);
     for reason in own {
@@ -43,7 +44,8 @@ fn joined(
 ) -> Result<Vec<Option<Closed>>, NoMemory>
     requires { length reaches.now ≡ length own.now }
     ensures count { IfOk result (λ reasons. length reasons.items ≡ length own.now) }
-    ensures each { IfOk result (λ reasons. (number : ℕ) (reason : Option Closed) (mark : Bool) → slice_get own.now number ≡ Some reason → slice_get reaches.now number ≡ Some mark
+    ensures each { IfOk result (λ reasons. (number : ℕ) (reason : Option Closed) (mark : Bool)
+        → slice_get own.now number ≡ Some reason → slice_get reaches.now number ≡ Some mark
         → slice_get reasons.items number ≡ Some (with_uses reason mark)) }
 {
     let mut reasons = Vec::new(alloc);
@@ -62,7 +64,8 @@ pub(crate) fn reasons_of(
     generic: &[bool],
 ) -> Result<Vec<Option<Closed>>, NoMemory>
     requires generic_count { length generic.now ≡ length schema.now }
-    requires generic { (number : ℕ) → number < length schema.now → slice_get generic.now number ≡ Some (is_generic schema.now number) }
+    requires generic { (number : ℕ) → number < length schema.now
+        → slice_get generic.now number ≡ Some (is_generic schema.now number) }
     ensures { IfOk result (λ reasons. AreReasons schema.now reasons.items) }
 {
     let own = match own_reasons(alloc, schema) {

@@ -33,7 +33,8 @@ fn is_struct(what: &What) -> bool
 /// The number of the struct of a name that takes no template and is open.
 fn root(schema: &Schema, generic: &[bool], reasons: &[Option<Closed>], name: &[u8]) -> Option<u32>
     requires generic_count { length generic.now ≡ length schema.now }
-    requires generic { (number : ℕ) → number < length schema.now → slice_get generic.now number ≡ Some (is_generic schema.now number) }
+    requires generic { (number : ℕ) → number < length schema.now
+        → slice_get generic.now number ≡ Some (is_generic schema.now number) }
     requires reasons { AreReasons schema.now reasons.now }
     ensures { MatchOption result ((number : ℕ) → IsRoot schema.now name.now number → ⊥) (IsRoot schema.now name.now) }
 {
@@ -53,9 +54,11 @@ fn root(schema: &Schema, generic: &[bool], reasons: &[Option<Closed>], name: &[u
 /// The first of the rules 2 to 8 that fails.
 fn field_fault(schema: &Schema, generic: &[bool], fields: &Fields) -> Option<u8>
     requires generic_count { length generic.now ≡ length schema.now }
-    requires generic { (number : ℕ) → number < length schema.now → slice_get generic.now number ≡ Some (is_generic schema.now number) }
+    requires generic { (number : ℕ) → number < length schema.now
+        → slice_get generic.now number ≡ Some (is_generic schema.now number) }
     requires fields { map field fields.now ≡ header_fields schema.now }
-    ensures { MatchOption result (FieldRules schema.now (header_fields schema.now)) (λ rule. HasRoots schema.now → RoleFault schema.now rule) }
+    ensures { MatchOption result (FieldRules schema.now (header_fields schema.now))
+        (λ rule. HasRoots schema.now → RoleFault schema.now rule) }
 {
     if !has_line(schema, fields) {
         return Some(2);
@@ -95,7 +98,8 @@ fn refers(what: &What) -> bool
 /// Marks each basic that refers to a block or to a string of the header.
 fn references(alloc: Global, schema: &Schema) -> Result<Vec<bool>, NoMemory>
     ensures count { IfOk result (λ marks. length marks.items ≡ length schema.now) }
-    ensures each { IfOk result (λ marks. (number : ℕ) (what : What) → what_at schema.now number ≡ Some what → slice_get marks.items number ≡ Some (refers what)) }
+    ensures each { IfOk result (λ marks. (number : ℕ) (what : What) → what_at schema.now number ≡ Some what
+        → slice_get marks.items number ≡ Some (refers what)) }
 {
     let mut marks = Vec::new(alloc);
     for number in 0..schema.count() {
@@ -116,7 +120,8 @@ fn refers_nowhere(
     requires header { find schema.now (codes "Header") ≡ Some header }
     requires within { header < length schema.now }
     requires generic_count { length generic.now ≡ length schema.now }
-    requires generic { (number : ℕ) → number < length schema.now → slice_get generic.now number ≡ Some (is_generic schema.now number) }
+    requires generic { (number : ℕ) → number < length schema.now
+        → slice_get generic.now number ≡ Some (is_generic schema.now number) }
     ensures { IfOk result (λ holds. IsTrue holds ↔ RefersNowhere schema.now) }
 {
     let marks = match references(alloc, schema) {
@@ -138,7 +143,8 @@ pub(crate) fn roots_of(
     reasons: &[Option<Closed>],
 ) -> Result<Roots, SchemaFault>
     requires generic_count { length generic.now ≡ length schema.now }
-    requires generic { (number : ℕ) → number < length schema.now → slice_get generic.now number ≡ Some (is_generic schema.now number) }
+    requires generic { (number : ℕ) → number < length schema.now
+        → slice_get generic.now number ≡ Some (is_generic schema.now number) }
     requires reasons { AreReasons schema.now reasons.now }
     ensures roles { IfOk result (λ roots. Roles schema.now) }
     ensures header { IfOk result (λ roots. find schema.now (codes "Header") ≡ Some roots.header) }

@@ -44,7 +44,8 @@ pub record IsReadyTaker {S : Type 0} (taker : Taker S) : Type 0 where
   pub within : place_of taker ≤ most_file_bytes
 
 -- Bytes were taken, and so many nodes counted.
-pub record Goes {S : Type 0} (left : S → Option (List ℕ)) (still : S → S → Type 0) (faults : S → ℕ) (bytes : List ℕ) (count : ℕ) (old new : Stand S) : Type 0 where
+pub record Goes {S : Type 0} (left : S → Option (List ℕ)) (still : S → S → Type 0) (faults : S → ℕ) (bytes : List ℕ)
+    (count : ℕ) (old new : Stand S) : Type 0 where
   pub takes : Takes left still faults old.taker bytes new.taker
   pub nodes : new.nodes ≡ old.nodes + count
   pub counted : new.nodes ≤ most_nodes
@@ -60,7 +61,8 @@ abbrev pub IfTold : {S : Type 0} → (S → Option (List ℕ)) → (Point → Ty
 IfTold left P at = IfSome (left_of left at.taker) (λ bytes. P (point at bytes))
 
 -- A value fails with this fault, and the source gave little more than what shows it.
-pub record FailsThere (Fails : Point → Fault → Type 0) (fault : Fault) (rest : Option (List ℕ)) (at : Point) : Type 0 where
+pub record FailsThere (Fails : Point → Fault → Type 0) (fault : Fault) (rest : Option (List ℕ))
+    (at : Point) : Type 0 where
   pub fails : Fails at fault
   pub gone : IsGone (at.place + length at.left) fault rest
 
@@ -72,10 +74,12 @@ Stops left faults Fails old new OfRead = Rose (faults (source_of old.taker)) (fa
 Stops left faults Fails old new OfMemory = Unit {0}
 
 -- What a taker alone answers: the fault of the bytes that are left, which are at the place of the taker.
-pub record Ends {S : Type 0} (left : S → Option (List ℕ)) (still : S → S → Type 0) (faults : S → ℕ) (expected : Point → Option Fault) (old new : Taker S) (why : Cause) : Type 0 where
+pub record Ends {S : Type 0} (left : S → Option (List ℕ)) (still : S → S → Type 0) (faults : S → ℕ)
+    (expected : Point → Option Fault) (old new : Taker S) (why : Cause) : Type 0 where
   pub went : Went still faults old new
   pub stops : (nodes : ℕ) (building : Option Building) (told : List Entry)
-      → Stops left faults (λ p f. expected p ≡ Some f) (record { taker = old; nodes = nodes; building = building; told = told }) new why
+      → Stops left faults (λ p f. expected p ≡ Some f)
+      (record { taker = old; nodes = nodes; building = building; told = told }) new why
 
 -- The tree that is being built takes a node, and this many levels more may be opened in it. What it holds is counted
 -- and was taken.
@@ -94,7 +98,8 @@ pub record IsReady {S : Type 0} (at : Stand S) (more : ℕ) : Type 0 where
   pub room : HasRoom at more
 
 -- A node was read.
-pub record ReadsNode {S : Type 0} (left : S → Option (List ℕ)) (still : S → S → Type 0) (faults : S → ℕ) (order : Order) (IsIt : Node → Type 0) (keeps : Node → List Entry) (old new : Stand S) : Type 0 where
+pub record ReadsNode {S : Type 0} (left : S → Option (List ℕ)) (still : S → S → Type 0) (faults : S → ℕ) (order : Order)
+    (IsIt : Node → Type 0) (keeps : Node → List Entry) (old new : Stand S) : Type 0 where
   pub node : Node
   pub is : IsIt node
   pub goes : Goes left still faults (text order node) (nodes node) old new
@@ -108,7 +113,8 @@ Adds node kept old told new told_new (Ok _) =
 Adds node kept old told new told_new (Err _) = IsSome new.building
 
 -- A call did not succeed, for a cause.
-pub record Ceases {S : Type 0} (left : S → Option (List ℕ)) (still : S → S → Type 0) (faults : S → ℕ) (Fails : Point → Fault → Type 0) (old new : Stand S) (why : Cause) : Type 0 where
+pub record Ceases {S : Type 0} (left : S → Option (List ℕ)) (still : S → S → Type 0) (faults : S → ℕ)
+    (Fails : Point → Fault → Type 0) (old new : Stand S) (why : Cause) : Type 0 where
   pub went : Went still faults old.taker new.taker
   pub building : IsSome new.building
   pub stops : Stops left faults Fails old new.taker why

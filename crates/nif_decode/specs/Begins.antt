@@ -28,7 +28,8 @@ pub record Opens {S : Type 0} (level : Level) (kept : List Entry) (old new : Sta
 abbrev pub Begins : {S : Type 0} → Level → List Entry → Stand S → Stand S → Result (Unit {0}) ValueFault → Type 0
 Begins level kept old new (Ok _) = Opens level kept old new
 Begins level kept old new (Err fault) =
-    IsSome new.building × ((cause fault ≡ OfMemory) ⊎ ((most_nodes ≤ old.nodes) × (cause fault ≡ OfValue (plain.TooManyNodes (place_of old.taker)))))
+    IsSome new.building × ((cause fault ≡ OfMemory)
+    ⊎ ((most_nodes ≤ old.nodes) × (cause fault ≡ OfValue (plain.TooManyNodes (place_of old.taker)))))
 
 -- An absent member was counted and left out.
 pub record LeftOut {S : Type 0} (old new : Stand S) : Type 0 where
@@ -40,7 +41,8 @@ pub record LeftOut {S : Type 0} (old new : Stand S) : Type 0 where
 abbrev pub LeavesOut : {S : Type 0} → Stand S → Stand S → Result (Unit {0}) ValueFault → Type 0
 LeavesOut old new (Ok _) = LeftOut old new
 LeavesOut old new (Err fault) =
-    IsSome new.building × ((cause fault ≡ OfMemory) ⊎ ((most_nodes ≤ old.nodes) × (cause fault ≡ OfValue (plain.TooManyNodes (place_of old.taker)))))
+    IsSome new.building × ((cause fault ≡ OfMemory)
+    ⊎ ((most_nodes ≤ old.nodes) × (cause fault ≡ OfValue (plain.TooManyNodes (place_of old.taker)))))
 
 -- a run of so many bytes
 abbrev pub IsRun : ℕ → Node → Type 0

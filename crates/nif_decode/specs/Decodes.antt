@@ -50,7 +50,8 @@ IsGroupType schema kind =
     (has_block schema kind ≡ true) ⊎ ((what_at schema kind ≡ Some Struct) × (is_generic schema kind ≡ false))
 
 -- The value was read into a tree of its own, and its nodes were counted.
-pub record Decoded {S : Type 0} (left : S → Option (List ℕ)) (still : S → S → Type 0) (faults : S → ℕ) (schema : Schema) (C : Context) (kind : ℕ) (old new : Taker S) (counted now : ℕ) (before after : Trees) (tree : TreeId) : Type 0 where
+pub record Decoded {S : Type 0} (left : S → Option (List ℕ)) (still : S → S → Type 0) (faults : S → ℕ) (schema : Schema)
+    (C : Context) (kind : ℕ) (old new : Taker S) (counted now : ℕ) (before after : Trees) (tree : TreeId) : Type 0 where
   pub node : Node
   pub is : Shape schema C 64 (kind_of schema C kind None 0) node
   pub takes : Takes left still faults old (text C.order node) new
@@ -61,9 +62,12 @@ pub record Decoded {S : Type 0} (left : S → Option (List ℕ)) (still : S → 
   pub found : find after.trees tree.run.key ≡ Some node
 
 -- The value failed, or it was not read for another cause, and no tree changed.
-pub record Refused {S : Type 0} (left : S → Option (List ℕ)) (still : S → S → Type 0) (faults : S → ℕ) (schema : Schema) (C : Context) (kind : ℕ) (old new : Taker S) (counted : ℕ) (before after : Trees) (fault : ValueFault) : Type 0 where
+pub record Refused {S : Type 0} (left : S → Option (List ℕ)) (still : S → S → Type 0) (faults : S → ℕ) (schema : Schema)
+    (C : Context) (kind : ℕ) (old new : Taker S) (counted : ℕ) (before after : Trees)
+    (fault : ValueFault) : Type 0 where
   pub went : Went still faults old new
-  pub stops : Stops left faults (Fails schema C 64 (kind_of schema C kind None 0)) (record { taker = old; nodes = counted; building = None; told = [] }) new (cause fault)
+  pub stops : Stops left faults (Fails schema C 64 (kind_of schema C kind None 0))
+      (record { taker = old; nodes = counted; building = None; told = [] }) new (cause fault)
   pub trees : after.trees ≡ before.trees
 
 abbrev pub Decodes : {S : Type 0} → (S → Option (List ℕ)) → (S → S → Type 0) → (S → ℕ) → Schema → Context → ℕ
@@ -91,7 +95,9 @@ abbrev pub MembersFail : Schema → Context → List Field → Env → Point →
 MembersFail schema C fields E point fault = LineFails schema (λ E. C) 63 None 0 (λ f. f) no_check fields E point fault
 
 -- The members were read behind those that were held, and counted.
-pub record MembersDecoded {S : Type 0} (left : S → Option (List ℕ)) (still : S → S → Type 0) (faults : S → ℕ) (schema : Schema) (C : Context) (kind from to : ℕ) (held : Members) (old new : Taker S) (counted now : ℕ) (entries : List Entry) (after : Trees) : Type 0 where
+pub record MembersDecoded {S : Type 0} (left : S → Option (List ℕ)) (still : S → S → Type 0) (faults : S → ℕ)
+    (schema : Schema) (C : Context) (kind from to : ℕ) (held : Members) (old new : Taker S) (counted now : ℕ)
+    (entries : List Entry) (after : Trees) : Type 0 where
   pub more : Members
   pub are : MembersShape schema C (fields_between schema kind from to) (env_of schema kind held) more
   pub takes : Takes left still faults old (texts C.order more) new
@@ -100,9 +106,12 @@ pub record MembersDecoded {S : Type 0} (left : S → Option (List ℕ)) (still :
   pub holds : HoldsMembers schema kind to entries after.building now (place_of new) (joined held more)
 
 -- A member failed, or the members were not read for another cause; the tree that was begun is gone.
-pub record MembersRefused {S : Type 0} (left : S → Option (List ℕ)) (still : S → S → Type 0) (faults : S → ℕ) (schema : Schema) (C : Context) (kind from to : ℕ) (held : Members) (old new : Taker S) (counted : ℕ) (after : Trees) (fault : ValueFault) : Type 0 where
+pub record MembersRefused {S : Type 0} (left : S → Option (List ℕ)) (still : S → S → Type 0) (faults : S → ℕ)
+    (schema : Schema) (C : Context) (kind from to : ℕ) (held : Members) (old new : Taker S) (counted : ℕ)
+    (after : Trees) (fault : ValueFault) : Type 0 where
   pub went : Went still faults old new
-  pub stops : Stops left faults (MembersFail schema C (fields_between schema kind from to) (env_of schema kind held)) (record { taker = old; nodes = counted; building = None; told = [] }) new (cause fault)
+  pub stops : Stops left faults (MembersFail schema C (fields_between schema kind from to) (env_of schema kind held))
+      (record { taker = old; nodes = counted; building = None; told = [] }) new (cause fault)
   pub building : after.building ≡ None
 
 abbrev pub DecodesMembers : {S : Type 0} → (S → Option (List ℕ)) → (S → S → Type 0) → (S → ℕ) → Schema → Context → ℕ

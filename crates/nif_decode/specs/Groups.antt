@@ -25,11 +25,13 @@ use Rattle.nif_decode.specs.Answers.{Stand, Goes, Ceases}
 
 -- one value of a group, in which groups lie at most d deep
 abbrev pub GroupShape : Setting → ℕ → Node → Type 0
-GroupShape at d node = IsGroup at.schema.now (context_in at) (Shape at.schema.now (context_in at) d) (line at.schema.now at.number) at.template at.arg node
+GroupShape at d node = IsGroup at.schema.now (context_in at) (Shape at.schema.now (context_in at) d)
+    (line at.schema.now at.number) at.template at.arg node
 
 abbrev pub GroupStops : Setting → ℕ → Point → Fault → Type 0
 GroupStops at d p fault =
-    Counted (λ f. f) (GroupFails at.schema.now (context_in at) (Shape at.schema.now (context_in at) d) (Fails at.schema.now (context_in at) d) (line at.schema.now at.number) at.template at.arg) p fault
+    Counted (λ f. f) (GroupFails at.schema.now (context_in at) (Shape at.schema.now (context_in at) d)
+    (Fails at.schema.now (context_in at) d) (line at.schema.now at.number) at.template at.arg) p fault
 
 -- the value of a field behind these earlier fields
 abbrev pub ValueShape : Setting → ℕ → Env → Field → Node → Type 0
@@ -37,7 +39,8 @@ ValueShape at d E f node =
     FormShape at.schema.now (context_in at) d (form_of at.schema.now (context_in at) at.template at.arg E f) node
 
 abbrev pub ValueStops : Setting → ℕ → Env → Field → Point → Fault → Type 0
-ValueStops at d E f p fault = FormShapeFails at.schema.now (context_in at) d (form_of at.schema.now (context_in at) at.template at.arg E f) p fault
+ValueStops at d E f p fault = FormShapeFails at.schema.now (context_in at) d
+    (form_of at.schema.now (context_in at) at.template at.arg E f) p fault
 
 abbrev pub IsHere : Setting → Env → Field → Bool
 IsHere at E f = present at.schema.now (context_in at) at.arg E f
@@ -66,10 +69,12 @@ built_by (Some node) building = after building (placed node)
 -- the next member fails by itself
 abbrev pub MemberStops : Setting → ℕ → Env → Field → Point → Fault → Type 0
 MemberStops at d E f p fault =
-    MemberFails (λ w. w) (context_in at).order (IsHere at E f) (ValueShape at d E f) (ValueStops at d E f) (λ got next w. ⊥) p fault
+    MemberFails (λ w. w) (context_in at).order (IsHere at E f) (ValueShape at d E f) (ValueStops at d E f)
+    (λ got next w. ⊥) p fault
 
 -- The next member of a group was read or left out.
-pub record ReadsMember {S : Type 0} (left : S → Option (List ℕ)) (still : S → S → Type 0) (faults : S → ℕ) (at : Setting) (d : ℕ) (E : Env) (f : Field) (old new : Stand S) : Type 0 where
+pub record ReadsMember {S : Type 0} (left : S → Option (List ℕ)) (still : S → S → Type 0) (faults : S → ℕ)
+    (at : Setting) (d : ℕ) (E : Env) (f : Field) (old new : Stand S) : Type 0 where
   pub got : Option Node
   pub is : MemberIs at d E f got
   pub goes : Goes left still faults (member_bytes (context_in at).order got) (member_nodes got) old new

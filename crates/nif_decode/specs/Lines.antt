@@ -20,7 +20,9 @@ use Rattle.nif_decode.specs.Faults.{cause}
 use Rattle.nif_decode.specs.Answers.{Stand, Went, Stops, Ceases, line_ends}
 
 -- The first bytes of a buffer are a line that was read as the first member of a group, and counted.
-pub record LineRead {S : Type 0} (left : S → Option (List ℕ)) (still : S → S → Type 0) (faults : S → ℕ) (old new : Taker S) (counted now : ℕ) (into : List ℕ) (entries : List Entry) (building : Option Building) (length : ℕ) : Type 0 where
+pub record LineRead {S : Type 0} (left : S → Option (List ℕ)) (still : S → S → Type 0) (faults : S → ℕ)
+    (old new : Taker S) (counted now : ℕ) (into : List ℕ) (entries : List Entry) (building : Option Building)
+    (length : ℕ) : Type 0 where
   pub bound : length ≤ 255
   pub in_line : AreInLine (take length into)
   pub takes : Takes left still faults old (take length into ++ 0x0A ∷ []) new
@@ -31,11 +33,12 @@ pub record LineRead {S : Type 0} (left : S → Option (List ℕ)) (still : S →
 
 -- The line failed, in whatever context it stands, or it was not read for another cause; the tree that was begun is
 -- gone.
-pub record LineRefused {S : Type 0} (left : S → Option (List ℕ)) (still : S → S → Type 0) (faults : S → ℕ) (old new : Taker S) (counted : ℕ) (building : Option Building) (fault : ValueFault) : Type 0 where
+pub record LineRefused {S : Type 0} (left : S → Option (List ℕ)) (still : S → S → Type 0) (faults : S → ℕ)
+    (old new : Taker S) (counted : ℕ) (building : Option Building) (fault : ValueFault) : Type 0 where
   pub went : Went still faults old new
   pub stops : (C : Context)
       → Stops left faults (LeafFails C kind.Line)
-          (record { taker = old; nodes = counted; building = None; told = [] }) new (cause fault)
+      (record { taker = old; nodes = counted; building = None; told = [] }) new (cause fault)
   pub gone : building ≡ None
 
 abbrev pub DecodesLine : {S : Type 0} → (S → Option (List ℕ)) → (S → S → Type 0) → (S → ℕ) → Taker S → Taker S → ℕ → ℕ

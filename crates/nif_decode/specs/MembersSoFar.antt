@@ -23,9 +23,11 @@ HoldsAt at from old held =
     HoldsMembers at.schema.now at.number from old.told old.building old.nodes (place_of old.taker) held
 
 -- The members of the fields from one place to another were read, and are kept behind those that were held.
-pub record MembersSoFar {S : Type 0} (left : S → Option (List ℕ)) (still : S → S → Type 0) (faults : S → ℕ) (at : Setting) (from to : ℕ) (held : Members) (old now : Stand S) : Type 0 where
+pub record MembersSoFar {S : Type 0} (left : S → Option (List ℕ)) (still : S → S → Type 0) (faults : S → ℕ)
+    (at : Setting) (from to : ℕ) (held : Members) (old now : Stand S) : Type 0 where
   pub more : Members
-  pub done : Fields (IsHere at) (ValueShape at 63) (no_check {Why = Fault}) (fields_between at.schema.now at.number from to) (env_of at.schema.now at.number held) more
+  pub done : Fields (IsHere at) (ValueShape at 63) (no_check {Why = Fault})
+      (fields_between at.schema.now at.number from to) (env_of at.schema.now at.number held) more
   pub goes : Goes left still faults (texts (context_in at).order more) (nodes_in more) old now
   pub built : now.building ≡ Some (record { top = None; levels = InGroup (joined held more) ∷ [] })
   pub kept : AreKept at.schema.now at.number to now.told (joined held more)
@@ -33,7 +35,8 @@ pub record MembersSoFar {S : Type 0} (left : S → Option (List ℕ)) (still : S
 -- one of these members fails
 abbrev pub MembersStop : Setting → ℕ → ℕ → Members → Point → Fault → Type 0
 MembersStop at from to held p fault =
-    FieldsFail (λ w. w) (λ E. (context_in at).order) (IsHere at) (ValueShape at 63) (ValueStops at 63) no_check (fields_between at.schema.now at.number from to) (env_of at.schema.now at.number held) p fault
+    FieldsFail (λ w. w) (λ E. (context_in at).order) (IsHere at) (ValueShape at 63) (ValueStops at 63) no_check
+    (fields_between at.schema.now at.number from to) (env_of at.schema.now at.number held) p fault
 
 abbrev pub MembersAnswers : {S : Type 0} → (S → Option (List ℕ)) → (S → S → Type 0) → (S → ℕ) → Setting → ℕ → ℕ
     → Members → Stand S → Stand S → Result (Unit {0}) ValueFault → Type 0

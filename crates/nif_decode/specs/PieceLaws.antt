@@ -32,7 +32,8 @@ tests_plain place false false = refl
 pub shortage_plain : (need : ℕ) (p : Point)
     → shortage need p ≡ option_and_then (plain_of p.place) (need_fault p.place need p.left)
 unfolding need_fault
-shortage_plain need p = tests_plain p.place (nat_lt (2 ^ 26) (p.place + need) && nat_lt (2 ^ 26) (p.place + length p.left)) (nat_lt (length p.left) need)
+shortage_plain need p = tests_plain p.place (nat_lt (2 ^ 26) (p.place + need)
+    && nat_lt (2 ^ 26) (p.place + length p.left)) (nat_lt (length p.left) need)
 
 pub need_no_line : (place need : ℕ) (bytes : List ℕ) → need_fault place need bytes ≢ Some take.LineTooLong
 unfolding need_fault
@@ -52,7 +53,8 @@ need_ended place need bytes e a b =
     let tb : ltb (2 ^ 26) (place + length bytes) ≡ true = lt-ltb (2 ^ 26) (place + length bytes) b in
     by (ltb (2 ^ 26) (place + need)) (ltb (2 ^ 26) (place + length bytes)) ta tb e
   where
-    by : (x y : Bool) → x ≡ true → y ≡ true → (if x && y then Some take.TooLong else if nat_lt (length bytes) need then Some take.Ended else None) ≡ Some take.Ended → ⊥
+    by : (x y : Bool) → x ≡ true → y ≡ true → (if x && y then Some take.TooLong else if nat_lt (length bytes) need
+        then Some take.Ended else None) ≡ Some take.Ended → ⊥
     by true true p q h = absurd (cc)
     by true false p q h = absurd (cc)
     by false y p q h = absurd (cc)
@@ -75,7 +77,8 @@ need_is_short place need bytes less both =
     short = lt-ltb (length bytes) need less
 
     by : (x y : Bool) → ltb (2 ^ 26) (place + need) ≡ x → ltb (2 ^ 26) (place + length bytes) ≡ y
-        → (if x && y then Some take.TooLong else if nat_lt (length bytes) need then Some take.Ended else None) ≡ Some take.Ended
+        → (if x && y then Some take.TooLong else if nat_lt (length bytes) need then Some take.Ended else None)
+        ≡ Some take.Ended
     by true true p q = absurd (both (ltb-true (2 ^ 26) (place + need) p) (ltb-true (2 ^ 26) (place + length bytes) q))
     by true false p q = ap (λ b. if b then Some take.Ended else None) short
     by false y p q = ap (λ b. if b then Some take.Ended else None) short
@@ -110,12 +113,18 @@ gone_long place asked bytes total None is h t = tt
 gone_long place asked bytes total (Some r) is h t = omega (arith, t)
 
 -- A piece of a run was not given.
-pub piece_ends : {S : Type 0} (left : S → Option (List ℕ)) (still : S → S → Type 0) (faults : S → ℕ) (a b c : Taker S) (x : List ℕ) (n count : ℕ) (fault : TakeFault)
+pub piece_ends : {S : Type 0} (left : S → Option (List ℕ)) (still : S → S → Type 0) (faults : S → ℕ) (a b c : Taker S)
+    (x : List ℕ) (n count : ℕ) (fault : TakeFault)
     → Takes left still faults a x b → length x + n ≤ count
     → Misses left still faults b (need_fault (place_of b) n) (asked_at (place_of b) n) c fault
     → Ends left still faults (shortage count) a c (take_cause (place_of a) fault)
 piece_ends {S = S} left still faults a b c x n count fault t fits m = record {
-  went = record { same_reference = m.same_reference ∙ t.same_reference; keeps = keeps_joined still a b c t.keeps m.keeps; later = omega (arith, t.later, m.later) };
+  went = record {
+    same_reference = m.same_reference
+        ∙ t.same_reference;
+    keeps = keeps_joined still a b c t.keeps m.keeps;
+    later = omega (arith, t.later, m.later);
+  };
   stops = λ k d e. by k d e fault (m.rose t.sound) (m.told t.sound);
 }
   where
@@ -133,34 +142,49 @@ piece_ends {S = S} left still faults a b c x n count fault t fits m = record {
 
     told : (k : ℕ) (f : TakeFault) (w : Fault) (q : Option (List ℕ)) → plain_of (place_of a) f ≡ Some w
         → f ≢ take.LineTooLong → f ≢ take.ReadFault
-        → ((bytes : List ℕ) → IfSome (left (source_of c)) (λ r. length bytes ≤ asked_at (place_of b) n + 4096 + length r) → IsGone (place_of a + length (x ++ bytes)) w (left (source_of c)))
+        → ((bytes : List ℕ) → IfSome (left (source_of c))
+        (λ r. length bytes ≤ asked_at (place_of b) n + 4096 + length r)
+        → IsGone (place_of a + length (x ++ bytes)) w (left (source_of c)))
         → IfSome q (λ bytes. need_fault (place_of b) n bytes ≡ Some f)
-        → IfSome q (λ bytes. IfSome (left (source_of c)) (λ r. length bytes ≤ asked_at (place_of b) n + 4096 + length r))
-        → IfSome (prepended x q) (λ bytes. FailsThere (λ p v. shortage count p ≡ Some v) w (left (source_of c)) (record { nodes = k; place = place_of a; left = bytes }))
+        → IfSome q (λ bytes. IfSome (left (source_of c))
+        (λ r. length bytes ≤ asked_at (place_of b) n + 4096 + length r))
+        → IfSome (prepended x q) (λ bytes. FailsThere (λ p v. shortage count p ≡ Some v) w (left (source_of c))
+        (record { nodes = k; place = place_of a; left = bytes }))
     told k f w None is l r g e h = tt
     told k f w (Some rest) is l r g e h = record { fails = whole k rest f w is l r e; gone = g rest h }
 
     at_old : (k : ℕ) (w : Fault)
-        → IfSome (prepended x (left_of left b)) (λ bytes. FailsThere (λ p v. shortage count p ≡ Some v) w (left (source_of c)) (record { nodes = k; place = place_of a; left = bytes }))
-        → IfSome (left_of left a) (λ bytes. FailsThere (λ p v. shortage count p ≡ Some v) w (left (source_of c)) (record { nodes = k; place = place_of a; left = bytes }))
-    at_old k w h = subst (λ o. IfSome o (λ bytes. FailsThere (λ p v. shortage count p ≡ Some v) w (left (source_of c)) (record { nodes = k; place = place_of a; left = bytes }))) (sym t.given) h
+        → IfSome (prepended x (left_of left b)) (λ bytes. FailsThere (λ p v. shortage count p ≡ Some v) w
+        (left (source_of c)) (record { nodes = k; place = place_of a; left = bytes }))
+        → IfSome (left_of left a) (λ bytes. FailsThere (λ p v. shortage count p ≡ Some v) w (left (source_of c))
+        (record { nodes = k; place = place_of a; left = bytes }))
+    at_old k w h = subst (λ o. IfSome o (λ bytes. FailsThere (λ p v. shortage count p ≡ Some v) w (left (source_of c))
+        (record { nodes = k; place = place_of a; left = bytes }))) (sym t.given) h
 
     no_line : (q : Option (List ℕ)) (w : Fault) (k : ℕ)
         → IfSome q (λ bytes. need_fault (place_of b) n bytes ≡ Some take.LineTooLong)
-        → IfSome (prepended x q) (λ bytes. FailsThere (λ p v. shortage count p ≡ Some v) w (left (source_of c)) (record { nodes = k; place = place_of a; left = bytes }))
+        → IfSome (prepended x q) (λ bytes. FailsThere (λ p v. shortage count p ≡ Some v) w (left (source_of c))
+        (record { nodes = k; place = place_of a; left = bytes }))
     no_line None w k e = tt
     no_line (Some rest) w k e = absurd (need_no_line (place_of b) n rest e)
 
     by : (k : ℕ) (d : Option Building) (e : List Entry) (f : TakeFault)
         → (f ≡ take.ReadFault → Rose (faults (source_of b)) (faults (source_of c)))
         → (f ≢ take.ReadFault → IfSome (left_of left b) (λ bytes. need_fault (place_of b) n bytes ≡ Some f))
-        → Stops left faults (λ p w. shortage count p ≡ Some w) (record { taker = a; nodes = k; building = d; told = e }) c (take_cause (place_of a) f)
-    by k d e take.ReadFault r h = let z : Rose (faults (source_of b)) (faults (source_of c)) = r refl in omega (arith, z, t.later)
+        → Stops left faults (λ p w. shortage count p ≡ Some w)
+        (record { taker = a; nodes = k; building = d; told = e }) c (take_cause (place_of a) f)
+    by k d e take.ReadFault r h = let z : Rose (faults (source_of b)) (faults (source_of c)) = r refl in omega
+        (arith, z, t.later)
     by k d e take.Ended r h =
-        at_old k (plain.Ended (place_of a)) (told k take.Ended (plain.Ended (place_of a)) (left_of left b) refl (λ e. absurd (cc)) (λ e. absurd (cc))
-        (λ bytes g. gone_all (place_of a + length (x ++ bytes)) (place_of a) (left (source_of c))) (h (λ e. absurd (cc))) (m.taken t.sound))
-    by k d e take.TooLong r h =
-        at_old k plain.TooLong (told k take.TooLong plain.TooLong (left_of left b) refl (λ e. absurd (cc)) (λ e. absurd (cc))
-        (λ bytes g. gone_long (place_of b) (asked_at (place_of b) n) bytes (place_of a + length (x ++ bytes)) (left (source_of c)) (omega (arith, length-append x bytes, t.place)) room g)
+        at_old k (plain.Ended (place_of a)) (told k take.Ended (plain.Ended (place_of a)) (left_of left b) refl
+        (λ e. absurd (cc)) (λ e. absurd (cc))
+        (λ bytes g. gone_all (place_of a + length (x ++ bytes)) (place_of a) (left (source_of c)))
         (h (λ e. absurd (cc))) (m.taken t.sound))
-    by k d e take.LineTooLong r h = at_old k (plain.LineTooLong (place_of a)) (no_line (left_of left b) (plain.LineTooLong (place_of a)) k (h (λ e. absurd (cc))))
+    by k d e take.TooLong r h =
+        at_old k plain.TooLong (told k take.TooLong plain.TooLong (left_of left b) refl (λ e. absurd (cc))
+        (λ e. absurd (cc))
+        (λ bytes g. gone_long (place_of b) (asked_at (place_of b) n) bytes (place_of a + length (x ++ bytes))
+        (left (source_of c)) (omega (arith, length-append x bytes, t.place)) room g)
+        (h (λ e. absurd (cc))) (m.taken t.sound))
+    by k d e take.LineTooLong r h = at_old k (plain.LineTooLong (place_of a))
+        (no_line (left_of left b) (plain.LineTooLong (place_of a)) k (h (λ e. absurd (cc))))

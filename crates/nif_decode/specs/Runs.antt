@@ -30,7 +30,8 @@ pub record HasRun {S : Type 0} (at : Stand S) : Type 0 where
   pub levels : length outer + 1 ≤ 256
 
 -- So many bytes of the run were taken and added.
-pub record RunSoFar {S : Type 0} (left : S → Option (List ℕ)) (still : S → S → Type 0) (faults : S → ℕ) (asked : Bool) (count : ℕ) (old new : Stand S) : Type 0 where
+pub record RunSoFar {S : Type 0} (left : S → Option (List ℕ)) (still : S → S → Type 0) (faults : S → ℕ) (asked : Bool)
+    (count : ℕ) (old new : Stand S) : Type 0 where
   pub bytes : List ℕ
   pub long : length bytes ≡ count
   pub are : AreBytes bytes

@@ -83,7 +83,8 @@ joined (Absent held) rest = Absent (joined held rest)
 
 -- The group that is open at the top of a tree holds the members of the first fields of a line, which were counted and
 -- taken.
-pub record HoldsMembers (schema : Schema) (kind : ℕ) (count : ℕ) (entries : List Entry) (building : Option Building) (counted place : ℕ) (held : Members) : Type 0 where
+pub record HoldsMembers (schema : Schema) (kind : ℕ) (count : ℕ) (entries : List Entry) (building : Option Building)
+    (counted place : ℕ) (held : Members) : Type 0 where
   pub are : AreKept schema kind count entries held
   pub is : building ≡ Some (record { top = None; levels = InGroup held ∷ [] })
   pub nodes : 1 + nodes_in held ≤ counted

@@ -22,7 +22,8 @@ items_kept asked (Here node rest) = item_kept asked node ++ items_kept asked res
 items_kept asked (Absent rest) = []
 
 -- So many items of a row were read since it was begun.
-pub record RowSoFar {S : Type 0} (left : S → Option (List ℕ)) (still : S → S → Type 0) (faults : S → ℕ) (order : Order) (IsItem : ℕ → Node → Type 0) (asked : Bool) (count : ℕ) (outer : List Level) (old now : Stand S) : Type 0 where
+pub record RowSoFar {S : Type 0} (left : S → Option (List ℕ)) (still : S → S → Type 0) (faults : S → ℕ) (order : Order)
+    (IsItem : ℕ → Node → Type 0) (asked : Bool) (count : ℕ) (outer : List Level) (old now : Stand S) : Type 0 where
   pub held : Members
   pub done : Items IsItem 0 count held
   pub goes : Goes left still faults (texts order held) (1 + nodes_in held) old now
@@ -30,7 +31,8 @@ pub record RowSoFar {S : Type 0} (left : S → Option (List ℕ)) (still : S →
   pub told : now.told ≡ old.told ++ entry.Nothing ∷ items_kept asked held
 
 -- The members of the first fields of a group were read since it was begun, and are kept.
-pub record GroupSoFar {S : Type 0} (left : S → Option (List ℕ)) (still : S → S → Type 0) (faults : S → ℕ) (at : Setting) (d : ℕ) (front : List Field) (outer : List Level) (old now : Stand S) : Type 0 where
+pub record GroupSoFar {S : Type 0} (left : S → Option (List ℕ)) (still : S → S → Type 0) (faults : S → ℕ) (at : Setting)
+    (d : ℕ) (front : List Field) (outer : List Level) (old now : Stand S) : Type 0 where
   pub held : Members
   pub done : Fields (IsHere at) (ValueShape at d) (no_check {Why = Fault}) front [] held
   pub goes : Goes left still faults (texts (context_in at).order held) (1 + nodes_in held) old now

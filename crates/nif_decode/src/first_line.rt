@@ -30,7 +30,9 @@ fn read_first_line<S: Source>(
     requires building { store.old.building ≡ Some (record { top = None; levels = InGroup node.End ∷ [] }) }
     requires told { told.old.items ≡ [] }
     ensures trees { store.new.trees ≡ store.old.trees }
-    ensures answers { AddsLine S.left S.still S.read_faults into.new (stand taker.old nodes.old store.old told.old.items) (stand taker.new nodes.new store.new told.new.items) result }
+    ensures answers { AddsLine S.left S.still S.read_faults into.new
+        (stand taker.old nodes.old store.old told.old.items)
+        (stand taker.new nodes.new store.new told.new.items) result }
     ensures counted { nodes.new ≤ most_nodes }
 {
     match take_nothing(taker) {

@@ -31,7 +31,8 @@ fn add_number(
     requires width { IsWidth width }
     requires bits { bits < 256 ^ width }
     ensures trees { store.new.trees ≡ store.old.trees }
-    ensures adds { Adds (node.Num width little bits) (kept.told (node.Num width little bits)) store.old told.old.items store.new told.new.items result }
+    ensures adds { Adds (node.Num width little bits)
+        (kept.told (node.Num width little bits)) store.old told.old.items store.new told.new.items result }
 {
     match store.num(width, little, bits) {
         Ok(()) => {}
@@ -54,7 +55,8 @@ pub(crate) fn add_line(
     requires one_line { All (λ byte. byte ≢ 0x0A) bytes.now }
     ensures in_line { AreInLine bytes.now }
     ensures trees { store.new.trees ≡ store.old.trees }
-    ensures adds { Adds (node.Line bytes.now) (kept.told (node.Line bytes.now)) store.old told.old.items store.new told.new.items result }
+    ensures adds { Adds (node.Line bytes.now) (kept.told
+        (node.Line bytes.now)) store.old told.old.items store.new told.new.items result }
 {
     match store.line(bytes) {
         Ok(()) => {}
@@ -88,7 +90,8 @@ fn add_text(index: Option<u32>, store: &mut Store, told: &mut Vec<Entry>) -> Res
     requires takes { Takes store.old.building TakesNode (placed (node.Text index)) }
     requires index { IfSome index (λ index. index < 2 ^ 32 - 1) }
     ensures trees { store.new.trees ≡ store.old.trees }
-    ensures adds { Adds (node.Text index) (kept.told (node.Text index)) store.old told.old.items store.new told.new.items result }
+    ensures adds { Adds (node.Text index) (kept.told
+        (node.Text index)) store.old told.old.items store.new told.new.items result }
 {
     match store.text(index) {
         Ok(()) => {}
@@ -146,8 +149,11 @@ pub(crate) fn read_number<S: Source>(
     requires width { IsWidth width }
     requires ready { IsReady (stand taker.old nodes.old store.old told.old.items) 0 }
     ensures trees { store.new.trees ≡ store.old.trees }
-    ensures answers { Answers S.left S.still S.read_faults context.now.context.order (IsLeaf (context_of context.now) (kind.Number width little)) (LeafFails (context_of context.now) (kind.Number width little)) kept.told
-        (stand taker.old nodes.old store.old told.old.items) (stand taker.new nodes.new store.new told.new.items) result }
+    ensures answers { Answers S.left S.still S.read_faults context.now.context.order
+        (IsLeaf (context_of context.now) (kind.Number width little))
+        (LeafFails (context_of context.now) (kind.Number width little)) kept.told
+        (stand taker.old nodes.old store.old told.old.items)
+        (stand taker.new nodes.new store.new told.new.items) result }
     ensures counted { nodes.new ≤ most_nodes }
 {
     match count(taker.place(), nodes) {
@@ -175,8 +181,10 @@ pub(crate) fn read_line<S: Source>(
 ) -> Result<(), ValueFault>
     requires ready { IsReady (stand taker.old nodes.old store.old told.old.items) 0 }
     ensures trees { store.new.trees ≡ store.old.trees }
-    ensures answers { Answers S.left S.still S.read_faults context.now.context.order (IsLeaf (context_of context.now) kind.Line) (LeafFails (context_of context.now) kind.Line) kept.told
-        (stand taker.old nodes.old store.old told.old.items) (stand taker.new nodes.new store.new told.new.items) result }
+    ensures answers { Answers S.left S.still S.read_faults context.now.context.order
+        (IsLeaf (context_of context.now) kind.Line) (LeafFails (context_of context.now) kind.Line) kept.told
+        (stand taker.old nodes.old store.old told.old.items)
+        (stand taker.new nodes.new store.new told.new.items) result }
     ensures counted { nodes.new ≤ most_nodes }
 {
     match count(taker.place(), nodes) {
@@ -206,8 +214,11 @@ pub(crate) fn read_ref<S: Source>(
 ) -> Result<(), ValueFault>
     requires ready { IsReady (stand taker.old nodes.old store.old told.old.items) 0 }
     ensures trees { store.new.trees ≡ store.old.trees }
-    ensures answers { Answers S.left S.still S.read_faults context.now.context.order (IsLeaf (context_of context.now) (kind.Ref strong wanted)) (LeafFails (context_of context.now) (kind.Ref strong wanted)) kept.told
-        (stand taker.old nodes.old store.old told.old.items) (stand taker.new nodes.new store.new told.new.items) result }
+    ensures answers { Answers S.left S.still S.read_faults context.now.context.order
+        (IsLeaf (context_of context.now) (kind.Ref strong wanted))
+        (LeafFails (context_of context.now) (kind.Ref strong wanted)) kept.told
+        (stand taker.old nodes.old store.old told.old.items)
+        (stand taker.new nodes.new store.new told.new.items) result }
     ensures counted { nodes.new ≤ most_nodes }
 {
     let at = taker.place();
@@ -248,8 +259,10 @@ pub(crate) fn read_text<S: Source>(
 ) -> Result<(), ValueFault>
     requires ready { IsReady (stand taker.old nodes.old store.old told.old.items) 0 }
     ensures trees { store.new.trees ≡ store.old.trees }
-    ensures answers { Answers S.left S.still S.read_faults context.now.context.order (IsLeaf (context_of context.now) kind.Text) (LeafFails (context_of context.now) kind.Text) kept.told
-        (stand taker.old nodes.old store.old told.old.items) (stand taker.new nodes.new store.new told.new.items) result }
+    ensures answers { Answers S.left S.still S.read_faults context.now.context.order
+        (IsLeaf (context_of context.now) kind.Text) (LeafFails (context_of context.now) kind.Text) kept.told
+        (stand taker.old nodes.old store.old told.old.items)
+        (stand taker.new nodes.new store.new told.new.items) result }
     ensures counted { nodes.new ≤ most_nodes }
 {
     let at = taker.place();

@@ -60,10 +60,13 @@ fn read_members<S: Source>(
     requires counted { nodes.old ≤ most_nodes }
     requires range { from ≤ to }
     requires within { to ≤ length (line at.now.schema.now at.now.number) }
-    requires members { (held : Members) × HoldsAt at.now from (stand taker.old nodes.old store.old told.old.items) held }
+    requires members { (held : Members) × HoldsAt at.now from
+        (stand taker.old nodes.old store.old told.old.items) held }
     ensures trees { store.new.trees ≡ store.old.trees }
     ensures answers { (held : Members) → HoldsAt at.now from (stand taker.old nodes.old store.old told.old.items) held
-        → MembersAnswers S.left S.still S.read_faults at.now from to held (stand taker.old nodes.old store.old told.old.items) (stand taker.new nodes.new store.new told.new.items) result }
+        → MembersAnswers S.left S.still S.read_faults at.now from to held
+        (stand taker.old nodes.old store.old told.old.items)
+        (stand taker.new nodes.new store.new told.new.items) result }
     ensures counted { nodes.new ≤ most_nodes }
 {
     for place in from..to {
@@ -97,11 +100,14 @@ pub fn decode_members<S: Source>(
     requires sound { taking.IsSound taker.old }
     requires range { from ≤ to }
     requires within { to ≤ length (line schema.now kind) }
-    requires members { (held : Members) × HoldsMembers schema.now kind from scope.old store.old.building bounds.old.nodes (taking.place_of taker.old) held }
+    requires members { (held : Members)
+        × HoldsMembers schema.now kind from scope.old store.old.building bounds.old.nodes
+        (taking.place_of taker.old) held }
     ensures blocks { bounds.new.blocks ≡ bounds.old.blocks }
     ensures strings { bounds.new.strings ≡ bounds.old.strings }
     ensures trees { store.new.trees ≡ store.old.trees }
-    ensures answers { (held : Members) → HoldsMembers schema.now kind from scope.old store.old.building bounds.old.nodes (taking.place_of taker.old) held
+    ensures answers { (held : Members) → HoldsMembers schema.now kind from scope.old store.old.building bounds.old.nodes
+        (taking.place_of taker.old) held
         → DecodesMembers S.left S.still S.read_faults schema.now (context_for schema.now context kind bounds.old) kind from to held taker.old taker.new bounds.old.nodes bounds.new.nodes scope.new store.new result }
     ensures counted { bounds.new.nodes ≤ most_nodes }
 {

@@ -37,7 +37,8 @@ pub(crate) fn begin_run<S: Source>(
 ) -> Result<(), ValueFault>
     requires { IsReady (stand taker.now nodes.old store.old told.old.items) 1 }
     ensures trees { store.new.trees ≡ store.old.trees }
-    ensures begins { Begins (InBytes []) (entry.Nothing ∷ []) (stand taker.now nodes.old store.old told.old.items) (stand taker.now nodes.new store.new told.new.items) result }
+    ensures begins { Begins (InBytes []) (entry.Nothing ∷ []) (stand taker.now nodes.old store.old told.old.items)
+        (stand taker.now nodes.new store.new told.new.items) result }
     ensures counted { nodes.new ≤ most_nodes }
 {
     match count(taker.place(), nodes) {
@@ -59,7 +60,8 @@ pub(crate) fn begin_group<S: Source>(
 ) -> Result<(), ValueFault>
     requires { IsReady (stand taker.now nodes.old store.old []) 1 }
     ensures trees { store.new.trees ≡ store.old.trees }
-    ensures begins { Begins (InGroup node.End) [] (stand taker.now nodes.old store.old []) (stand taker.now nodes.new store.new []) result }
+    ensures begins { Begins (InGroup node.End) [] (stand taker.now nodes.old store.old [])
+        (stand taker.now nodes.new store.new []) result }
     ensures counted { nodes.new ≤ most_nodes }
 {
     match count(taker.place(), nodes) {
@@ -81,7 +83,8 @@ pub(crate) fn begin_row<S: Source>(
 ) -> Result<(), ValueFault>
     requires { IsReady (stand taker.now nodes.old store.old told.old.items) 1 }
     ensures trees { store.new.trees ≡ store.old.trees }
-    ensures begins { Begins (InRow node.End) (entry.Nothing ∷ []) (stand taker.now nodes.old store.old told.old.items) (stand taker.now nodes.new store.new told.new.items) result }
+    ensures begins { Begins (InRow node.End) (entry.Nothing ∷ []) (stand taker.now nodes.old store.old told.old.items)
+        (stand taker.now nodes.new store.new told.new.items) result }
     ensures counted { nodes.new ≤ most_nodes }
 {
     match count(taker.place(), nodes) {
@@ -98,7 +101,8 @@ pub(crate) fn begin_row<S: Source>(
 /// Says in the entry of an array how many entries of its items stand behind it, where its items are asked for.
 pub(crate) fn end_items(asked: bool, start: usize, told: &mut Vec<Entry>)
     requires { start < length told.old.items }
-    ensures { (front more : List Entry) → told.old.items ≡ front ++ entry.Nothing ∷ more → length front ≡ start → told.new.items ≡ front ++ row_head asked more ∷ more }
+    ensures { (front more : List Entry) → told.old.items ≡ front ++ entry.Nothing ∷ more → length front ≡ start
+        → told.new.items ≡ front ++ row_head asked more ∷ more }
 {
     if asked {
         let entries = told.len() - start - 1;
@@ -119,7 +123,8 @@ fn item_of(entry: Entry) -> Entry
 /// Keeps of an item, whose entries stand from a place on, its number where items are asked for, and nothing else.
 pub(crate) fn settle_item(asked: bool, start: usize, told: &mut Vec<Entry>)
     requires { start < length told.old.items }
-    ensures { (front : List Entry) (node : Node) → told.old.items ≡ front ++ kept.told node → length front ≡ start → told.new.items ≡ front ++ item_kept asked node }
+    ensures { (front : List Entry) (node : Node) → told.old.items ≡ front ++ kept.told node → length front ≡ start
+        → told.new.items ≡ front ++ item_kept asked node }
 {
     if asked {
         told[start] = item_of(told[start]);
@@ -139,7 +144,8 @@ pub(crate) fn leave_out<S: Source>(
     requires ready { IsReady (stand taker.now nodes.old store.old told.old.items) 0 }
     requires group { IsSomeAnd store.old.building (λ b. TakesAbsent b.levels) }
     ensures trees { store.new.trees ≡ store.old.trees }
-    ensures answers { LeavesOut (stand taker.now nodes.old store.old told.old.items) (stand taker.now nodes.new store.new told.new.items) result }
+    ensures answers { LeavesOut (stand taker.now nodes.old store.old told.old.items)
+        (stand taker.now nodes.new store.new told.new.items) result }
     ensures counted { nodes.new ≤ most_nodes }
 {
     match count(taker.place(), nodes) {

@@ -65,7 +65,8 @@ fn take_run<S: Source>(
 ) -> Result<(), ValueFault>
     requires { (nodes : ℕ) → HasRun (stand taker.old nodes store.old told.old.items) }
     ensures trees { store.new.trees ≡ store.old.trees }
-    ensures answers { (nodes : ℕ) → RunAnswers S.left S.still S.read_faults asked count (stand taker.old nodes store.old told.old.items) (stand taker.new nodes store.new told.new.items) result }
+    ensures answers { (nodes : ℕ) → RunAnswers S.left S.still S.read_faults asked count
+        (stand taker.old nodes store.old told.old.items) (stand taker.new nodes store.new told.new.items) result }
 {
     let at = taker.place();
     let mut array = [0; PIECE];
@@ -98,7 +99,9 @@ pub(crate) fn read_run<S: Source>(
 ) -> Result<(), ValueFault>
     requires { IsReady (stand taker.old nodes.old store.old told.old.items) 1 }
     ensures trees { store.new.trees ≡ store.old.trees }
-    ensures answers { Answers S.left S.still S.read_faults order (IsRun count) (RunFails count) (member_told asked) (stand taker.old nodes.old store.old told.old.items) (stand taker.new nodes.new store.new told.new.items) result }
+    ensures answers { Answers S.left S.still S.read_faults order (IsRun count) (RunFails count) (member_told asked)
+        (stand taker.old nodes.old store.old told.old.items)
+        (stand taker.new nodes.new store.new told.new.items) result }
     ensures counted { nodes.new ≤ most_nodes }
 {
     let start = told.len();

@@ -125,7 +125,8 @@ impl Scope {
     /// The bits of the number that is the member at a place, counted from 0; or of that which is the member `inner` of
     /// the group that is this member. There are none where it is absent, is no number, or wasn't read.
     pub fn number_at(&self, member: u32, inner: Option<u32>) -> Option<u64>
-        ensures { (schema : Schema) (kind count : ℕ) (members : Members) → AreKept schema kind count self.now members → result ≡ number_at members member inner }
+        ensures { (schema : Schema) (kind count : ℕ) (members : Members) → AreKept schema kind count self.now members
+            → result ≡ number_at members member inner }
     {
         let found = from_member(&self.entries, member);
         match inner {
@@ -136,7 +137,8 @@ impl Scope {
 
     /// Whether the member at a place is there: it isn't where it is absent or wasn't read.
     pub fn is_present(&self, member: u32) -> bool
-        ensures { (schema : Schema) (kind count : ℕ) (members : Members) → AreKept schema kind count self.now members → result ≡ is_some (member_at members member) }
+        ensures { (schema : Schema) (kind count : ℕ) (members : Members) → AreKept schema kind count self.now members
+            → result ≡ is_some (member_at members member) }
     {
         is_first(from_member(&self.entries, member))
     }

@@ -47,8 +47,10 @@ fn take_into<S: Source>(
     requires width { length bytes.old ≤ 8 }
     requires ready { IsReadyTaker taker.old }
     ensures bits { IfOk result (λ bits. bits < 256 ^ length bytes.old) }
-    ensures ok { IfOk result (λ bits. Takes S.left S.still S.read_faults taker.old (number little (length bytes.old) bits) taker.new) }
-    ensures err { IfErr result (λ fault. Ends S.left S.still S.read_faults (shortage (length bytes.old)) taker.old taker.new (cause fault)) }
+    ensures ok { IfOk result (λ bits. Takes S.left S.still S.read_faults taker.old
+        (number little (length bytes.old) bits) taker.new) }
+    ensures err { IfErr result (λ fault. Ends S.left S.still S.read_faults
+        (shortage (length bytes.old)) taker.old taker.new (cause fault)) }
 {
     let at = taker.place();
     match taker.take(bytes) {
@@ -67,8 +69,10 @@ pub fn take_number<S: Source>(
     requires width { width ≤ 8 }
     requires ready { IsReadyTaker taker.old }
     ensures bits { IfOk result (λ bits. bits < 256 ^ width) }
-    ensures ok { IfOk result (λ bits. Takes S.left S.still S.read_faults taker.old (number little width bits) taker.new) }
-    ensures err { IfErr result (λ fault. Ends S.left S.still S.read_faults (shortage width) taker.old taker.new (cause fault)) }
+    ensures ok { IfOk result (λ bits. Takes S.left S.still S.read_faults taker.old
+        (number little width bits) taker.new) }
+    ensures err { IfErr result (λ fault. Ends S.left S.still S.read_faults (shortage width) taker.old taker.new
+        (cause fault)) }
 {
     let mut array = [0; 8];
     take_into(little, &mut array[..width as usize], taker)
@@ -78,7 +82,8 @@ pub fn take_number<S: Source>(
 pub(crate) fn take_nothing<S: Source>(taker: &mut Taker<'_, S>) -> Result<(), ValueFault>
     requires { IsSound taker.old }
     ensures ok { OnOk result (Takes S.left S.still S.read_faults taker.old [] taker.new) }
-    ensures err { IfErr result (λ fault. Ends S.left S.still S.read_faults (λ p. None) taker.old taker.new (cause fault)) }
+    ensures err { IfErr result (λ fault. Ends S.left S.still S.read_faults (λ p. None) taker.old taker.new
+        (cause fault)) }
 {
     let at = taker.place();
     match taker.take(&mut []) {
@@ -95,8 +100,10 @@ pub(crate) fn take_line<S: Source>(
     requires { IsReadyTaker taker.old }
     ensures bound { IfOk result (λ n. n ≤ 255) }
     ensures one_line { IfOk result (λ n. All (λ c. c ≢ 10) (take n into.new)) }
-    ensures ok { IfOk result (λ n. Takes S.left S.still S.read_faults taker.old (take n into.new ++ 10 ∷ []) taker.new) }
-    ensures err { IfErr result (λ fault. Ends S.left S.still S.read_faults line_ends taker.old taker.new (cause fault)) }
+    ensures ok { IfOk result (λ n. Takes S.left S.still S.read_faults taker.old
+        (take n into.new ++ 10 ∷ []) taker.new) }
+    ensures err { IfErr result (λ fault. Ends S.left S.still S.read_faults line_ends taker.old taker.new
+        (cause fault)) }
 {
     let at = taker.place();
     match taker.line(into) {

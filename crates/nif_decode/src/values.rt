@@ -42,8 +42,10 @@ pub(crate) fn read_one<S: Source>(
     requires ready { IsReady (stand taker.old nodes.old store.old told.old.items) (3 * depth) }
     ensures trees { store.new.trees ≡ store.old.trees }
     ensures answers { Answers S.left S.still S.read_faults (context_in at.now).order
-        (Shape at.now.schema.now (context_in at.now) depth (kind_of at.now.schema.now of)) (Fails at.now.schema.now (context_in at.now) depth (kind_of at.now.schema.now of)) kept.told
-        (stand taker.old nodes.old store.old told.old.items) (stand taker.new nodes.new store.new told.new.items) result }
+        (Shape at.now.schema.now (context_in at.now) depth (kind_of at.now.schema.now of))
+        (Fails at.now.schema.now (context_in at.now) depth (kind_of at.now.schema.now of)) kept.told
+        (stand taker.old nodes.old store.old told.old.items)
+        (stand taker.new nodes.new store.new told.new.items) result }
     ensures counted { nodes.new ≤ most_nodes }
 {
     match of {
@@ -91,8 +93,10 @@ pub(crate) fn read_group<S: Source>(
     requires setting { IsSetting at.now }
     requires ready { IsReady (stand taker.old nodes.old store.old told.old.items) (3 * depth + 3) }
     ensures trees { store.new.trees ≡ store.old.trees }
-    ensures answers { Answers S.left S.still S.read_faults (context_in at.now).order (GroupShape at.now depth) (GroupStops at.now depth) kept.told
-        (stand taker.old nodes.old store.old told.old.items) (stand taker.new nodes.new store.new told.new.items) result }
+    ensures answers { Answers S.left S.still S.read_faults (context_in at.now).order (GroupShape at.now depth)
+        (GroupStops at.now depth) kept.told
+        (stand taker.old nodes.old store.old told.old.items)
+        (stand taker.new nodes.new store.new told.new.items) result }
     ensures counted { nodes.new ≤ most_nodes }
 {
     match begin_group(taker, store, nodes) {
@@ -133,7 +137,8 @@ pub(crate) fn read_member<S: Source>(
     ensures trees { store.new.trees ≡ store.old.trees }
     ensures answers { (held : Members) → Tells at.now told.old.items held
         → MemberAnswers S.left S.still S.read_faults at.now depth (earlier at.now held) (field of.now)
-        (stand taker.old nodes.old store.old told.old.items) (stand taker.new nodes.new store.new told.new.items) result }
+        (stand taker.old nodes.old store.old told.old.items)
+        (stand taker.new nodes.new store.new told.new.items) result }
     ensures counted { nodes.new ≤ most_nodes }
 {
     if !scopes::is_present(at, told, of) {
@@ -160,8 +165,12 @@ fn read_value<S: Source>(
     requires ready { IsReady (stand taker.old nodes.old store.old told.old.items) (3 * depth + 2) }
     ensures trees { store.new.trees ≡ store.old.trees }
     ensures answers { (held : Members) → Tells at.now told.old.items held
-        → Answers S.left S.still S.read_faults (context_in at.now).order (ValueShape at.now depth (earlier at.now held) (field of.now)) (ValueStops at.now depth (earlier at.now held) (field of.now)) (member_told (asks at.now.schema.now at.now.number (field of.now)))
-        (stand taker.old nodes.old store.old told.old.items) (stand taker.new nodes.new store.new told.new.items) result }
+        → Answers S.left S.still S.read_faults (context_in at.now).order
+        (ValueShape at.now depth (earlier at.now held) (field of.now))
+        (ValueStops at.now depth (earlier at.now held) (field of.now))
+        (member_told (asks at.now.schema.now at.now.number (field of.now)))
+        (stand taker.old nodes.old store.old told.old.items)
+        (stand taker.new nodes.new store.new told.new.items) result }
     ensures counted { nodes.new ≤ most_nodes }
 {
     let (kind, size) = scopes::form_of(at, told, of);
@@ -201,9 +210,17 @@ fn read_rows<S: Source>(
     ensures trees { store.new.trees ≡ store.old.trees }
     ensures answers { (held : Members) → Tells at.now told.old.items held
         → Answers S.left S.still S.read_faults (context_in at.now).order
-        (IsForm (Shape at.now.schema.now (context_in at.now) depth) (Row count (λ i. row_of run (kind_of at.now.schema.now kind) (width_of (width_at at.now.schema.now (context_in at.now) (earlier at.now held) at.now.arg) (field of.now).width i))))
-        (FormFails (context_in at.now).order (Shape at.now.schema.now (context_in at.now) depth) (Fails at.now.schema.now (context_in at.now) depth) (Row count (λ i. row_of run (kind_of at.now.schema.now kind) (width_of (width_at at.now.schema.now (context_in at.now) (earlier at.now held) at.now.arg) (field of.now).width i))))
-        (member_told asked) (stand taker.old nodes.old store.old told.old.items) (stand taker.new nodes.new store.new told.new.items) result }
+        (IsForm (Shape at.now.schema.now (context_in at.now) depth)
+        (Row count (λ i. row_of run (kind_of at.now.schema.now kind)
+        (width_of (width_at at.now.schema.now (context_in at.now) (earlier at.now held) at.now.arg)
+        (field of.now).width i))))
+        (FormFails (context_in at.now).order (Shape at.now.schema.now (context_in at.now) depth)
+        (Fails at.now.schema.now (context_in at.now) depth)
+        (Row count (λ i. row_of run (kind_of at.now.schema.now kind)
+        (width_of (width_at at.now.schema.now (context_in at.now) (earlier at.now held) at.now.arg)
+        (field of.now).width i))))
+        (member_told asked) (stand taker.old nodes.old store.old told.old.items)
+        (stand taker.new nodes.new store.new told.new.items) result }
     ensures counted { nodes.new ≤ most_nodes }
 {
     let end = told.len();
@@ -249,8 +266,10 @@ fn read_array<S: Source>(
     ensures trees { store.new.trees ≡ store.old.trees }
     ensures answers { Answers S.left S.still S.read_faults (context_in at.now).order
         (IsForm (Shape at.now.schema.now (context_in at.now) depth) (row_of run (kind_of at.now.schema.now of) count))
-        (FormFails (context_in at.now).order (Shape at.now.schema.now (context_in at.now) depth) (Fails at.now.schema.now (context_in at.now) depth) (row_of run (kind_of at.now.schema.now of) count))
-        (member_told asked) (stand taker.old nodes.old store.old told.old.items) (stand taker.new nodes.new store.new told.new.items) result }
+        (FormFails (context_in at.now).order (Shape at.now.schema.now (context_in at.now) depth)
+        (Fails at.now.schema.now (context_in at.now) depth) (row_of run (kind_of at.now.schema.now of) count))
+        (member_told asked) (stand taker.old nodes.old store.old told.old.items)
+        (stand taker.new nodes.new store.new told.new.items) result }
     ensures counted { nodes.new ≤ most_nodes }
 {
     if run {
@@ -290,8 +309,10 @@ fn read_row<S: Source>(
     ensures trees { store.new.trees ≡ store.old.trees }
     ensures answers { Answers S.left S.still S.read_faults (context_in at.now).order
         (IsForm (Shape at.now.schema.now (context_in at.now) depth) (row_of false (kind_of at.now.schema.now of) count))
-        (FormFails (context_in at.now).order (Shape at.now.schema.now (context_in at.now) depth) (Fails at.now.schema.now (context_in at.now) depth) (row_of false (kind_of at.now.schema.now of) count))
-        (member_told asked) (stand taker.old nodes.old store.old told.old.items) (stand taker.new nodes.new store.new told.new.items) result }
+        (FormFails (context_in at.now).order (Shape at.now.schema.now (context_in at.now) depth)
+        (Fails at.now.schema.now (context_in at.now) depth) (row_of false (kind_of at.now.schema.now of) count))
+        (member_told asked) (stand taker.old nodes.old store.old told.old.items)
+        (stand taker.new nodes.new store.new told.new.items) result }
     ensures counted { nodes.new ≤ most_nodes }
 {
     let start = told.len();

@@ -54,5 +54,6 @@ passes_next all depth met rest ahead so_far is few more = record {
   whole =
       sym (opened (depth_after depth (step_of met)) (behind_one (depth_after depth (step_of met)) rest) rest more)
       ∙ ap (behind_one depth) (sym is) ∙ so_far.whole;
-  fits = λ _. fits_more depth (depth_after depth (step_of met)) (length ahead) (length rest) so_far.fits (depth_more depth (step_of met)) (ap length is) few;
+  fits = λ _. fits_more depth (depth_after depth (step_of met)) (length ahead) (length rest) so_far.fits
+      (depth_more depth (step_of met)) (ap length is) few;
 }

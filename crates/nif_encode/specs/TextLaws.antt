@@ -80,7 +80,8 @@ members_at order zero (Here n more) rest h =
     ∙ node_text order 0 n (walk_in more ++ rest) ∙ append-nil (text order n)
 members_at order zero (Absent more) rest h = refl
 members_at order (suc k) (Here n more) rest h =
-    ap (λ m. one_text order 0 (behind_many k m)) (ap (λ m. behind_one 0 m) (append_assoc (walk n) (walk_in more) rest) ∙ node_behind 0 n (walk_in more ++ rest))
+    ap (λ m. one_text order 0 (behind_many k m)) (ap (λ m. behind_one 0 m) (append_assoc (walk n) (walk_in more) rest)
+    ∙ node_behind 0 n (walk_in more ++ rest))
     ∙ members_at order k more rest (omega (arith, h))
 members_at order (suc k) (Absent more) rest h = members_at order k more rest (omega (arith, h))
 
@@ -119,7 +120,8 @@ many_ahead : (order : Order) (k n : ℕ) (members : Members) (rest : List Met) �
     → many_text order n (behind_many k (walk_in members ++ rest)) ≡ texts_from order k n members
 many_ahead order k zero members rest h = refl
 many_ahead order k (suc n) members rest h =
-    ap (λ l. l ++ many_text order n (behind_one 0 (behind_many k (walk_in members ++ rest)))) (members_at order k members rest (omega (arith, h)))
+    ap (λ l. l ++ many_text order n (behind_one 0 (behind_many k (walk_in members ++ rest))))
+    (members_at order k members rest (omega (arith, h)))
     ∙ ap (λ a. text_at order k members ++ many_text order n a) (many_more k (walk_in members ++ rest))
     ∙ ap (λ l. text_at order k members ++ l) (many_ahead order (suc k) n members rest (omega (arith, h)))
 

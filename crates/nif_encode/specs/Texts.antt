@@ -49,7 +49,8 @@ where_open (suc depth) some none = some
 abbrev pub one_text : Order → ℕ → List Met → List ℕ
 one_text order depth [] = []
 one_text order depth (met ∷ rest) =
-    met_text order met ++ where_open (depth_after depth (step_of met)) (one_text order (depth_after depth (step_of met)) rest) []
+    met_text order met ++ where_open (depth_after depth (step_of met))
+    (one_text order (depth_after depth (step_of met)) rest) []
 
 -- and what is ahead behind that step
 abbrev pub behind_one : ℕ → List Met → List Met

@@ -19,8 +19,10 @@ pub fn encode_value<K: Sink>(
     out: &mut Putter<'_, K>,
 ) -> Result<(), WriteFault>
     requires { IsLive store.now tree.run.key }
-    ensures ok { OnOk result (IfSome (find store.now.trees tree.run.key) (λ node. Puts K.grew K.write_faults out.old (text order node) out.new)) }
-    ensures err { OnErr result (IfSome (find store.now.trees tree.run.key) (λ node. Fails K.grew K.write_faults out.old (text order node) out.new)) }
+    ensures ok { OnOk result (IfSome (find store.now.trees tree.run.key)
+        (λ node. Puts K.grew K.write_faults out.old (text order node) out.new)) }
+    ensures err { OnErr result (IfSome (find store.now.trees tree.run.key)
+        (λ node. Fails K.grew K.write_faults out.old (text order node) out.new)) }
     ensures stays { HasFailed out.old → IsErr result × (sink_of out.new ≡ sink_of out.old) }
 {
     match out.put(b"") {
@@ -41,8 +43,10 @@ fn put_members<K: Sink>(
     out: &mut Putter<'_, K>,
 ) -> Result<(), WriteFault>
     requires { IsSomeAnd (find store.now.trees tree.run.key) (HasMembers (first + count)) }
-    ensures ok { OnOk result (IfSome (find store.now.trees tree.run.key) (λ node. Puts K.grew K.write_faults out.old (some_text order first count node) out.new)) }
-    ensures err { OnErr result (IfSome (find store.now.trees tree.run.key) (λ node. Fails K.grew K.write_faults out.old (some_text order first count node) out.new)) }
+    ensures ok { OnOk result (IfSome (find store.now.trees tree.run.key)
+        (λ node. Puts K.grew K.write_faults out.old (some_text order first count node) out.new)) }
+    ensures err { OnErr result (IfSome (find store.now.trees tree.run.key)
+        (λ node. Fails K.grew K.write_faults out.old (some_text order first count node) out.new)) }
     ensures stays { HasFailed out.old → IsErr result × (sink_of out.new ≡ sink_of out.old) }
 {
     match out.put(b"") {
@@ -66,8 +70,10 @@ pub fn encode_member<K: Sink>(
     out: &mut Putter<'_, K>,
 ) -> Result<(), WriteFault>
     requires { IsSomeAnd (find store.now.trees tree.run.key) (HasMember member) }
-    ensures ok { OnOk result (IfSome (find store.now.trees tree.run.key) (λ node. Puts K.grew K.write_faults out.old (member_text order member node) out.new)) }
-    ensures err { OnErr result (IfSome (find store.now.trees tree.run.key) (λ node. Fails K.grew K.write_faults out.old (member_text order member node) out.new)) }
+    ensures ok { OnOk result (IfSome (find store.now.trees tree.run.key)
+        (λ node. Puts K.grew K.write_faults out.old (member_text order member node) out.new)) }
+    ensures err { OnErr result (IfSome (find store.now.trees tree.run.key)
+        (λ node. Fails K.grew K.write_faults out.old (member_text order member node) out.new)) }
     ensures stays { HasFailed out.old → IsErr result × (sink_of out.new ≡ sink_of out.old) }
 {
     put_members(store, tree, member, 1, order, out)
@@ -85,8 +91,10 @@ pub fn encode_members<K: Sink>(
 ) -> Result<(), WriteFault>
     requires range { from ≤ to }
     requires members { IsSomeAnd (find store.now.trees tree.run.key) (HasMembers to) }
-    ensures ok { OnOk result (IfSome (find store.now.trees tree.run.key) (λ node. Puts K.grew K.write_faults out.old (members_text order from to node) out.new)) }
-    ensures err { OnErr result (IfSome (find store.now.trees tree.run.key) (λ node. Fails K.grew K.write_faults out.old (members_text order from to node) out.new)) }
+    ensures ok { OnOk result (IfSome (find store.now.trees tree.run.key)
+        (λ node. Puts K.grew K.write_faults out.old (members_text order from to node) out.new)) }
+    ensures err { OnErr result (IfSome (find store.now.trees tree.run.key)
+        (λ node. Fails K.grew K.write_faults out.old (members_text order from to node) out.new)) }
     ensures stays { HasFailed out.old → IsErr result × (sink_of out.new ≡ sink_of out.old) }
 {
     put_members(store, tree, from, to - from, order, out)

@@ -19,7 +19,7 @@ header_stops_file S bytes stop (inr bad) = inr (bad.0, bad.1, bad.2, inl bad.3)
 
 pub fault_value : (f : ValueFault) → fault_of f ≢ file.ReadFault → fault_of f ≢ file.NoMemory
     → (v : Fault) × (cause f ≡ OfValue v) ×
-        ((total : ℕ) → of_value total v ≡ record { fault = fault_of f; known = known total v })
+    ((total : ℕ) → of_value total v ≡ record { fault = fault_of f; known = known total v })
 fault_value (fault.Ended at) r m = (plain.Ended at, refl, λ total. refl)
 fault_value fault.TooLong r m = (plain.TooLong, refl, λ total. refl)
 fault_value (fault.LineTooLong at) r m = (plain.LineTooLong at, refl, λ total. refl)

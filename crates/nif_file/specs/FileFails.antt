@@ -35,7 +35,8 @@ sized_needs order left = if nat_lt (length left) 4 then 4 else 4 + number_at (is
 abbrev pub KindRefused : Schema → ℕ → ℕ → ℕ → Stop → Type 0
 KindRefused S k kind known stop =
     ((is_abstract S kind ≡ true) × (stop ≡ record { fault = file.AbstractType k; known = known }))
-    ⊎ ((is_abstract S kind ≡ false) × (reason : Closed) × IsReason S kind (Some reason) × (stop ≡ record { fault = file.ClosedType k reason; known = known }))
+    ⊎ ((is_abstract S kind ≡ false) × (reason : Closed) × IsReason S kind (Some reason)
+    × (stop ≡ record { fault = file.ClosedType k reason; known = known }))
 
 -- No block type has this name, or that type is refused.
 abbrev pub NameRefused : Schema → ℕ → Name → ℕ → Stop → Type 0
@@ -46,14 +47,16 @@ NameRefused S k name known stop =
 -- In an indexed file: there is no such entry, or the name there is refused.
 abbrev pub EntryRefused : Schema → Env → ℕ → ℕ → Point → Stop → Type 0
 EntryRefused S E k word at stop =
-    ((slice_get (type_names E) (type_place word) ≡ None) × (stop ≡ record { fault = file.TypeIndex k (type_place word); known = at.place }))
+    ((slice_get (type_names E) (type_place word) ≡ None)
+    × (stop ≡ record { fault = file.TypeIndex k (type_place word); known = at.place }))
     ⊎ ((name : Name) × (slice_get (type_names E) (type_place word) ≡ Some name) × NameRefused S k name at.place stop)
 
 -- In another file: the name isn't there, or it is refused.
 abbrev pub NameFails : Schema → ℕ → Env → ℕ → Point → Stop → Type 0
 NameFails S total E k at stop =
     PartFails total (sized_needs (order_in E) at.left) at stop
-    ⊎ ((name : Name) × (next : Point) × Passes (sized_string (order_in E) name) 0 at next × NameRefused S k name next.place stop)
+    ⊎ ((name : Name) × (next : Point) × Passes (sized_string (order_in E) name) 0 at next
+    × NameRefused S k name next.place stop)
 
 abbrev pub TypeFailsBy : Option ℕ → Schema → ℕ → Env → ℕ → Point → Stop → Type 0
 TypeFailsBy (Some word) S total E k at stop = EntryRefused S E k word at stop
@@ -144,7 +147,8 @@ FooterFails S total E at stop =
 abbrev pub BodyFails : Schema → ℕ → Env → Point → Stop → Type 0
 BodyFails S total E at stop =
     BlocksFail S total E 0 (number_of (codes "Num Blocks") E) at stop
-    ⊎ ((blocks : List Block) × (next : Point) × BlocksRead S E 0 (number_of (codes "Num Blocks") E) blocks at next × FooterFails S total E next stop)
+    ⊎ ((blocks : List Block) × (next : Point) × BlocksRead S E 0 (number_of (codes "Num Blocks") E) blocks at next
+    × FooterFails S total E next stop)
 
 -- behind the header: it lacks its types, or what follows it fails
 abbrev pub RestFails : Schema → ℕ → Env → Point → Stop → Type 0
@@ -166,7 +170,8 @@ start_of bytes = record { nodes = 1; place = 0; left = bytes }
 abbrev pub FileStops : Schema → List ℕ → Stop → Type 0
 FileStops S bytes stop =
     HeaderFails S (length bytes) (start_of bytes) stop
-    ⊎ ((members : Members) × (next : Point) × HeaderReads S members (start_of bytes) next × RestFails S (length bytes) (head_of S members) next stop)
+    ⊎ ((members : Members) × (next : Point) × HeaderReads S members (start_of bytes) next
+    × RestFails S (length bytes) (head_of S members) next stop)
 
 -- the first fault of a file
 abbrev pub FileFails : Schema → List ℕ → FileFault → Type 0

@@ -12,4 +12,5 @@ behind_front front bytes = if starts_with nat_eq bytes front then Some (drop (le
 -- the version of a line, or none where the line has neither form
 unfoldable pub line_version : List ℕ → Option ℕ
 line_version line =
-    option_and_then version_of (option_or (behind_front (codes "NetImmerse File Format, Version ") line) (behind_front (codes "Gamebryo File Format, Version ") line))
+    option_and_then version_of (option_or (behind_front (codes "NetImmerse File Format, Version ") line)
+    (behind_front (codes "Gamebryo File Format, Version ") line))

@@ -68,7 +68,11 @@ header_context S E = record {
 
 -- What decides how the footer is read, behind all members of the header.
 abbrev pub file_context : Schema → Env → Context
-file_context S E = record (header_context S E) { blocks = number_of (codes "Num Blocks") E; strings = number_of (codes "Num Strings") E }
+file_context S E = record (header_context S E) {
+  blocks = number_of (codes "Num Blocks") E;
+  strings = number_of
+      (codes "Num Strings") E;
+}
 
 -- And the value of a block of this type.
 abbrev pub block_context : Schema → Env → ℕ → Context

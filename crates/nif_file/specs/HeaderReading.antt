@@ -39,7 +39,8 @@ use Rattle.nif_file.specs.Heads.{IsHead, IsNext, IsPart, ArePlaces, context_of}
 abbrev pub HeaderStops : Schema → ℕ → Point → Stop → Type 0
 HeaderStops S total at stop =
     HeaderFails S total at stop
-    ⊎ ((members : Members) × (next : Point) × HeaderReads S members at next × (types_fault (head_of S members) ≡ Some stop))
+    ⊎ ((members : Members) × (next : Point) × HeaderReads S members at next
+    × (types_fault (head_of S members) ≡ Some stop))
 
 -- The header of these bytes stops with this fault, and at most 4,096 bytes behind those that show it are gone from the
 -- source.
@@ -49,7 +50,8 @@ pub record StopsThere (S : Schema) (fault : FileFault) (rest : Option (List ℕ)
   pub gone : IfSome rest (λ left. length bytes ≤ known + 4096 + length left)
 
 -- There is no header: a read failed, memory ran out, or the bytes show the fault.
-pub record HasNoHeader {S : Type 0} (left : S → Option (List ℕ)) (still : S → S → Type 0) (faults : S → ℕ) (schema : Schema) (old new : Taker S) (fault : FileFault) : Type 0 where
+pub record HasNoHeader {S : Type 0} (left : S → Option (List ℕ)) (still : S → S → Type 0) (faults : S → ℕ)
+    (schema : Schema) (old new : Taker S) (fault : FileFault) : Type 0 where
   pub went : Went still faults old new
   pub read : fault ≡ file.ReadFault → Rose (faults (source_of old)) (faults (source_of new))
   pub stops : fault ≢ file.ReadFault → fault ≢ file.NoMemory
@@ -70,13 +72,15 @@ fault_of fault.NoMemory = file.NoMemory
 -- ---- what a header is that was read
 
 -- The header was read into a new tree. What it says decides how the blocks and the footer are read.
-pub record HasHeader {S : Type 0} (left : S → Option (List ℕ)) (still : S → S → Type 0) (faults : S → ℕ) (schema : Schema) (old new : Taker S) (before after : Trees) (header : Header) : Type 0 where
+pub record HasHeader {S : Type 0} (left : S → Option (List ℕ)) (still : S → S → Type 0) (faults : S → ℕ)
+    (schema : Schema) (old new : Taker S) (before after : Trees) (header : Header) : Type 0 where
   pub members : Members
   pub is : IsHeader schema (node.Group members)
   pub takes : Takes left still faults old (header_text schema members) new
   pub counted : header.bounds.nodes ≡ nodes (node.Group members)
   pub few : nodes (node.Group members) ≤ most_nodes
-  pub context : context_of header.context header.bounds.blocks header.bounds.strings ≡ file_context schema (head_of schema members)
+  pub context : context_of header.context header.bounds.blocks header.bounds.strings
+      ≡ file_context schema (head_of schema members)
   pub places : ArePlaces schema header.places
   pub fresh : find before.trees header.tree.run.key ≡ None
   pub trees : after.trees ≡ before.trees ++ (header.tree.run.key, node.Group members) ∷ []
@@ -92,7 +96,8 @@ ReadsHeader left still faults schema old new before after (Err fault) =
 -- ---- where the reader stands
 
 -- The member of a field was read and is kept behind the others, which are told.
-pub record IsNoted (S : Schema) (header place : ℕ) (E : Env) (f : Field) (got : Option Node) (entries : List Entry) (head : Head) : Type 0 where
+pub record IsNoted (S : Schema) (header place : ℕ) (E : Env) (f : Field) (got : Option Node) (entries : List Entry)
+    (head : Head) : Type 0 where
   pub held : Members
   pub kept : AreKept S header (place + 1) entries held
   pub at : member_at held place ≡ got
@@ -101,13 +106,16 @@ pub record IsNoted (S : Schema) (header place : ℕ) (E : Env) (f : Field) (got 
   pub line : (earlier : Earlier) × (before : Env) × (E ≡ earlier ∷ before)
 
 -- It is told, and why it is refused, if it is.
-pub record Notes (S : Schema) (E : Env) (f : Field) (got : Option Node) (head : Head) (refusal : Option FileFault) : Type 0 where
+pub record Notes (S : Schema) (E : Env) (f : Field) (got : Option Node) (head : Head)
+    (refusal : Option FileFault) : Type 0 where
   pub told : IsHead S (behind f got E) head
   pub refused : refusal ≡ option_map (λ stop. stop.fault) (header_check S E f got)
 
 -- The reader stands behind the first members: they were taken from the first byte on, are kept and told, and stand in
 -- the tree that is being built.
-pub record StandsAt {S : Type 0} (left : S → Option (List ℕ)) (still : S → S → Type 0) (faults : S → ℕ) (schema : Schema) (header count : ℕ) (start now : Taker S) (entries : List Entry) (building : Option Building) (counted : ℕ) (head : Head) : Type 0 where
+pub record StandsAt {S : Type 0} (left : S → Option (List ℕ)) (still : S → S → Type 0) (faults : S → ℕ)
+    (schema : Schema) (header count : ℕ) (start now : Taker S) (entries : List Entry) (building : Option Building)
+    (counted : ℕ) (head : Head) : Type 0 where
   pub held : Members
   pub bytes : List ℕ
   pub part : IsPart schema count held bytes counted

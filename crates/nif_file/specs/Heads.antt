@@ -24,7 +24,8 @@ pub record IsHead (S : Schema) (E : Env) (head : Head) : Type 0 where
   pub version : head.version.number ≡ version_in E
   pub user : head.user ≡ number_of (codes "User Version") E
   pub second : head.second ≡ option_map (number_in false) (member (codes "User Version 2") E)
-  pub inner : head.inner ≡ option_map_or (λ at. inner_number S (codes "BS Version") at.0 at.1) (last_present (codes "BS Header") E) 0
+  pub inner : head.inner ≡ option_map_or (λ at. inner_number S (codes "BS Version") at.0 at.1)
+      (last_present (codes "BS Header") E) 0
   pub order : head.order ≡ order_in E
   pub blocks : head.blocks ≡ number_of (codes "Num Blocks") E
   pub strings : head.strings ≡ number_of (codes "Num Strings") E
@@ -68,7 +69,7 @@ pub record IsPart (S : Schema) (count : ℕ) (held : Members) (bytes : List ℕ)
   pub is : held ≡ with_members gots End
   pub reads : (rest : List ℕ)
       → PartReads S gots (header_line S) [] (start_of (bytes ++ rest)) (drop count (header_line S)) (head_of S held)
-          (record { nodes = counted; place = length bytes; left = rest })
+      (record { nodes = counted; place = length bytes; left = rest })
 
 -- the place of the first field of a name
 abbrev pub place_in : Name → List Field → Option ℕ

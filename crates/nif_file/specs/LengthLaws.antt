@@ -35,7 +35,8 @@ mutual
   length_texts order (Absent rest) = length_texts order rest
 
 -- the members of a line, in whatever orders
-pub line_length : {Why : Type 0} (order : Env → Order) (here : Env → Field → Bool) (V : Env → Field → Node → Type 0) (check : Check Why) (fields : List Field) (E : Env) (members : Members)
+pub line_length : {Why : Type 0} (order : Env → Order) (here : Env → Field → Bool) (V : Env → Field → Node → Type 0)
+    (check : Check Why) (fields : List Field) (E : Env) (members : Members)
     → Fields here V check fields E members → length (fields_text order fields E members) ≡ size_in members
 line_length order here V check [] E members h = sym (ap size_in h)
 line_length {Why} order here V check (f ∷ fields) E members h =
@@ -43,8 +44,9 @@ line_length {Why} order here V check (f ∷ fields) E members h =
   where
     by : (b : Bool) (members : Members)
         → Member b (V E f)
-            (λ got rest. (check E f got ≡ None) × Fields here V check fields (behind f got E) rest) members
-        → ((got : Option Node) (rest : Members) → Fields here V check fields (behind f got E) rest → length (fields_text order fields (behind f got E) rest) ≡ size_in rest)
+        (λ got rest. (check E f got ≡ None) × Fields here V check fields (behind f got E) rest) members
+        → ((got : Option Node) (rest : Members) → Fields here V check fields (behind f got E) rest
+        → length (fields_text order fields (behind f got E) rest) ≡ size_in rest)
         → length (fields_text order (f ∷ fields) E members) ≡ size_in members
     by true members h ih =
         let P : Members → Type 0 = λ m. length (fields_text order (f ∷ fields) E m) ≡ size_in m in

@@ -29,7 +29,8 @@ up_to name (f ∷ fields) = if is_named name f then 1 else suc (up_to name field
 -- The members of the header up to and with `Endian Type` are little, the others are in the order of the file.
 abbrev pub header_part : List Field → Order → Node → List ℕ
 header_part fields order header =
-    members_text Little 0 (up_to (codes "Endian Type") fields) header ++ members_text order (up_to (codes "Endian Type") fields) (length fields) header
+    members_text Little 0 (up_to (codes "Endian Type") fields) header
+    ++ members_text order (up_to (codes "Endian Type") fields) (length fields) header
 
 abbrev pub block_part : Schema → Trees → Context → BlockPart → List ℕ
 block_part S store context part =

@@ -49,7 +49,8 @@ one_named name (f ∷ fields) zero (Absent rest) E is none =
     ap node_in (none_named name fields rest (behind f None E) is.1) ∙ here
 one_named name (f ∷ fields) (suc k) End E is none = none
 one_named name (f ∷ fields) (suc k) (Here value rest) E is none =
-    one_named name fields k rest (behind f (Some value) E) is.1 (ap node_in (other_name name f (Some value) E is.0) ∙ none)
+    one_named name fields k rest (behind f (Some value) E) is.1
+    (ap node_in (other_name name f (Some value) E is.0) ∙ none)
 one_named name (f ∷ fields) (suc k) (Absent rest) E is none =
     one_named name fields k rest (behind f None E) is.1 (ap node_in (other_name name f None E is.0) ∙ none)
 

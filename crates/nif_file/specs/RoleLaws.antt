@@ -26,18 +26,21 @@ abbrev pub Among : List Field → Field → Type 0
 Among [] f = ⊥
 Among (g ∷ fields) f = (g ≡ f) ⊎ Among fields f
 
-pub record Held {Why : Type 0} (Value : Env → Field → Node → Type 0) (check : Check Why) (fields : List Field) (name : Name) (f : Field) (value : Node) : Type 0 where
+pub record Held {Why : Type 0} (Value : Env → Field → Node → Type 0) (check : Check Why) (fields : List Field)
+    (name : Name) (f : Field) (value : Node) : Type 0 where
   pub before : Env
   pub among : Among fields f
   pub named : bytes_eq name f.name ≡ true
   pub is : Value before f value
   pub fine : check before f (Some value) ≡ None
 
-pub held_further : {Why : Type 0} (Value : Env → Field → Node → Type 0) (check : Check Why) (g : Field) (fields : List Field) (name : Name) (f : Field) (value : Node)
+pub held_further : {Why : Type 0} (Value : Env → Field → Node → Type 0) (check : Check Why) (g : Field)
+    (fields : List Field) (name : Name) (f : Field) (value : Node)
     → Held Value check fields name f value → Held Value check (g ∷ fields) name f value
 held_further Value check g fields name f value h = record { before = h.before; among = inr h.among; named = h.named; is = h.is; fine = h.fine }
 
-pub held : {Why : Type 0} (here : Env → Field → Bool) (Value : Env → Field → Node → Type 0) (check : Check Why) (name : Name) (fields : List Field) (E : Env) (members : Members)
+pub held : {Why : Type 0} (here : Env → Field → Bool) (Value : Env → Field → Node → Type 0) (check : Check Why)
+    (name : Name) (fields : List Field) (E : Env) (members : Members)
     → Fields here Value check fields E members → (at : Field × Node)
     → last_present name (passed fields members E) ≡ Some at
     → (last_present name E ≡ Some at) ⊎ Held Value check fields name at.0 at.1
@@ -65,7 +68,8 @@ held {Why} here Value check name (f ∷ fields) E members h at e =
 
     present : (value : Node) → Value E f value → check E f (Some value) ≡ None → (t : Bool) → bytes_eq name f.name ≡ t
         → last_present name (behind f (Some value) E) ≡ Some at → Answer
-    present value is fine true named l = let pair : Some (f, value) ≡ Some at = rw named at l in inr (is_here value is fine named (some_pair (f, value) at pair))
+    present value is fine true named l = let pair : Some (f, value)
+        ≡ Some at = rw named at l in inr (is_here value is fine named (some_pair (f, value) at pair))
     present value is fine false other l = inl (rw other at l)
 
     absent : (t : Bool) → bytes_eq name f.name ≡ t → last_present name (behind f None E) ≡ Some at
@@ -75,7 +79,7 @@ held {Why} here Value check name (f ∷ fields) E members h at e =
 
     by : (b : Bool) (members : Members)
         → Member b (Value E f)
-            (λ got rest. (check E f got ≡ None) × Fields here Value check fields (behind f got E) rest) members
+        (λ got rest. (check E f got ≡ None) × Fields here Value check fields (behind f got E) rest) members
         → last_present name (passed (f ∷ fields) members E) ≡ Some at
         → ((got : Option Node) (rest : Members) → Later got rest) → Answer
     by true members h e ih =

@@ -73,8 +73,10 @@ fn put_members<K: Sink>(
 ) -> Result<(), WriteFault>
     requires range { from ≤ to }
     requires members { IsSomeAnd (region.find store.now.trees tree.run.key) (HasMembers to) }
-    ensures ok { OnOk result (Puts K.grew K.write_faults out.old (members_text order from to (node_at store.now tree)) out.new) }
-    ensures err { OnErr result (Fails K.grew K.write_faults out.old (members_text order from to (node_at store.now tree)) out.new) }
+    ensures ok { OnOk result (Puts K.grew K.write_faults out.old
+        (members_text order from to (node_at store.now tree)) out.new) }
+    ensures err { OnErr result (Fails K.grew K.write_faults out.old
+        (members_text order from to (node_at store.now tree)) out.new) }
 {
     encode_members(store, tree, from, to, order, out)
 }
@@ -87,8 +89,12 @@ fn put_header<K: Sink>(
     out: &mut Putter<'_, K>,
 ) -> Result<(), WriteFault>
     requires { CanPut schema.now parts.now }
-    ensures ok { OnOk result (Puts K.grew K.write_faults out.old (header_part (header_fields schema.now) parts.now.context.order (node_at parts.now.store parts.now.header)) out.new) }
-    ensures err { OnErr result (Fails K.grew K.write_faults out.old (header_part (header_fields schema.now) parts.now.context.order (node_at parts.now.store parts.now.header)) out.new) }
+    ensures ok { OnOk result (Puts K.grew K.write_faults out.old
+        (header_part (header_fields schema.now) parts.now.context.order
+        (node_at parts.now.store parts.now.header)) out.new) }
+    ensures err { OnErr result (Fails K.grew K.write_faults out.old
+        (header_part (header_fields schema.now) parts.now.context.order
+        (node_at parts.now.store parts.now.header)) out.new) }
 {
     let (front, all) = header_counts(schema);
     put_members(&parts.store, parts.header, 0, front, Order::Little, out)?;
@@ -121,8 +127,10 @@ fn put_name<K: Sink>(
 ) -> Result<(), WriteFault>
     requires kind { part.kind < length schema.now }
     requires sound { IsSound out.old }
-    ensures ok { OnOk result (Puts K.grew K.write_faults out.old (name_where part.index_word order (name_of schema.now part.kind)) out.new) }
-    ensures err { OnErr result (Fails K.grew K.write_faults out.old (name_where part.index_word order (name_of schema.now part.kind)) out.new) }
+    ensures ok { OnOk result (Puts K.grew K.write_faults out.old
+        (name_where part.index_word order (name_of schema.now part.kind)) out.new) }
+    ensures err { OnErr result (Fails K.grew K.write_faults out.old
+        (name_where part.index_word order (name_of schema.now part.kind)) out.new) }
 {
     match part.index_word {
         Some(_) => Ok(()),
@@ -134,7 +142,8 @@ fn put_name<K: Sink>(
 fn put_zero_word<K: Sink>(version: Version, out: &mut Putter<'_, K>) -> Result<(), WriteFault>
     requires { IsSound out.old }
     ensures ok { OnOk result (Puts K.grew K.write_faults out.old (zero_where (has_zero_word version.number)) out.new) }
-    ensures err { OnErr result (Fails K.grew K.write_faults out.old (zero_where (has_zero_word version.number)) out.new) }
+    ensures err { OnErr result (Fails K.grew K.write_faults out.old
+        (zero_where (has_zero_word version.number)) out.new) }
 {
     if has_zero_word(version) {
         return out.put(&[0; 4]);
@@ -152,8 +161,10 @@ fn put_block<K: Sink>(
 ) -> Result<(), WriteFault>
     requires part { CanPutBlock schema.now store.now part }
     requires sound { IsSound out.old }
-    ensures ok { OnOk result (Puts K.grew K.write_faults out.old (block_part schema.now store.now context part) out.new) }
-    ensures err { OnErr result (Fails K.grew K.write_faults out.old (block_part schema.now store.now context part) out.new) }
+    ensures ok { OnOk result (Puts K.grew K.write_faults out.old
+        (block_part schema.now store.now context part) out.new) }
+    ensures err { OnErr result (Fails K.grew K.write_faults out.old
+        (block_part schema.now store.now context part) out.new) }
 {
     put_name(schema, part, context.order, out)?;
     put_zero_word(context.version, out)?;
@@ -168,8 +179,10 @@ fn put_blocks<K: Sink>(
 ) -> Result<(), WriteFault>
     requires can { CanPut schema.now parts.now }
     requires sound { IsSound out.old }
-    ensures ok { OnOk result (Puts K.grew K.write_faults out.old (flat_map (block_part schema.now parts.now.store parts.now.context) parts.now.blocks) out.new) }
-    ensures err { OnErr result (Fails K.grew K.write_faults out.old (flat_map (block_part schema.now parts.now.store parts.now.context) parts.now.blocks) out.new) }
+    ensures ok { OnOk result (Puts K.grew K.write_faults out.old
+        (flat_map (block_part schema.now parts.now.store parts.now.context) parts.now.blocks) out.new) }
+    ensures err { OnErr result (Fails K.grew K.write_faults out.old
+        (flat_map (block_part schema.now parts.now.store parts.now.context) parts.now.blocks) out.new) }
 {
     for place in 0..parts.blocks.len() {
         let part = *parts.blocks.get(place);
@@ -217,8 +230,10 @@ pub fn encode_file<K: Sink>(
 ) -> Result<(), WriteFault>
     requires roles { Roles schema.now }
     requires file { (F : File) × SaysFile schema.now parts.now F × IsFile schema.now F (text_of schema.now F) }
-    ensures ok { OnOk result ((F : File) → SaysFile schema.now parts.now F → K.grew sink.old (text_of schema.now F) sink.new) }
-    ensures err { OnErr result ((F : File) → SaysFile schema.now parts.now F → HasTaken K.grew sink.old sink.new (text_of schema.now F)) }
+    ensures ok { OnOk result ((F : File) → SaysFile schema.now parts.now F
+        → K.grew sink.old (text_of schema.now F) sink.new) }
+    ensures err { OnErr result ((F : File) → SaysFile schema.now parts.now F
+        → HasTaken K.grew sink.old sink.new (text_of schema.now F)) }
     ensures cause { HasCause (K.write_faults sink.old) (K.write_faults sink.new) result }
 {
     write_parts(schema, parts, sink)

@@ -93,9 +93,11 @@ fn read_line<S: Source>(
     ensures trees { store.new.trees ≡ store.old.trees }
     ensures blocks { bounds.new.blocks ≡ bounds.old.blocks }
     ensures strings { bounds.new.strings ≡ bounds.old.strings }
-    ensures ok { IfOk result (λ head. (schema : Schema) (header : ℕ) → IsSchema schema → Roles schema → find schema (codes "Header") ≡ Some header → place_of taker.old ≡ 0
+    ensures ok { IfOk result (λ head. (schema : Schema) (header : ℕ) → IsSchema schema → Roles schema
+        → find schema (codes "Header") ≡ Some header → place_of taker.old ≡ 0
         → StandsAt S.left S.still S.read_faults schema header 1 taker.old taker.new scope.new store.new.building bounds.new.nodes head) }
-    ensures err { IfErr result (λ fault. (schema : Schema) → IsSchema schema → Roles schema → place_of taker.old ≡ 0 → HasNoHeader S.left S.still S.read_faults schema taker.old taker.new fault) }
+    ensures err { IfErr result (λ fault. (schema : Schema) → IsSchema schema → Roles schema → place_of taker.old ≡ 0
+        → HasNoHeader S.left S.still S.read_faults schema taker.old taker.new fault) }
     ensures building { OnErr result (store.new.building ≡ None) }
 {
     let mut line = [0; 255];
@@ -114,8 +116,12 @@ fn read_line<S: Source>(
 
 /// The number of `BS Version` in `BS Header`, where the member is that; else 0.
 fn inner_number(schema: &Schema, of: &Field, place: u32, scope: &Scope) -> u64
-    ensures { (header : ℕ) (held : Members) (at : Node) → IsSchema schema.now → Roles schema.now → find schema.now (codes "Header") ≡ Some header → slice_get (header_line schema.now) place ≡ Some (field of.now)
-        → AreKept schema.now header (place + 1) scope.now held → member_at held place ≡ Some at → bytes_eq (codes "BS Header") of.now.name ≡ true → result ≡ inner_number schema.now (codes "BS Version") (field of.now) at }
+    ensures { (header : ℕ) (held : Members) (at : Node) → IsSchema schema.now → Roles schema.now
+        → find schema.now (codes "Header") ≡ Some header
+        → slice_get (header_line schema.now) place ≡ Some (field of.now)
+        → AreKept schema.now header (place + 1) scope.now held → member_at held place ≡ Some at
+        → bytes_eq (codes "BS Header") of.now.name ≡ true
+        → result ≡ inner_number schema.now (codes "BS Version") (field of.now) at }
 {
     if !is_name(b"BS Header".as_slice(), of.name.bytes()) {
         return 0;
@@ -140,8 +146,11 @@ fn note(
     requires is { IsSchema schema.now }
     requires roles { Roles schema.now }
     requires header { find schema.now (codes "Header") ≡ Some header }
-    requires noted { (E : Env) × (f : plain.Field) × (got : Option Node) × (slice_get (header_line schema.now) place ≡ Some f) × IsNoted schema.now header place E f got scope.now head.old }
-    ensures { (E : Env) (f : plain.Field) (got : Option Node) → slice_get (header_line schema.now) place ≡ Some f → IsNoted schema.now header place E f got scope.now head.old
+    requires noted { (E : Env) × (f : plain.Field) × (got : Option Node)
+        × (slice_get (header_line schema.now) place ≡ Some f)
+        × IsNoted schema.now header place E f got scope.now head.old }
+    ensures { (E : Env) (f : plain.Field) (got : Option Node) → slice_get (header_line schema.now) place ≡ Some f
+        → IsNoted schema.now header place E f got scope.now head.old
         → Notes schema.now E f got head.new result }
 {
     if !scope.is_present(place) {
@@ -178,7 +187,8 @@ fn read_next<S: Source>(
     ensures blocks { bounds.new.blocks ≡ bounds.old.blocks }
     ensures strings { bounds.new.strings ≡ bounds.old.strings }
     ensures ok { OnOk result ((start : takers.Taker S) → StandsAt S.left S.still S.read_faults schema.now header place start taker.old scope.old store.old.building bounds.old.nodes head.old
-        → StandsAt S.left S.still S.read_faults schema.now header (place + 1) start taker.new scope.new store.new.building bounds.new.nodes head.new) }
+        → StandsAt S.left S.still S.read_faults schema.now header
+        (place + 1) start taker.new scope.new store.new.building bounds.new.nodes head.new) }
     ensures err { IfErr result (λ fault. (start : takers.Taker S) → StandsAt S.left S.still S.read_faults schema.now header place start taker.old scope.old store.old.building bounds.old.nodes head.old
         → HasNoHeader S.left S.still S.read_faults schema.now start taker.new fault) }
     ensures building { OnErr result (store.new.building ≡ None) }
@@ -225,7 +235,8 @@ fn read_members<S: Source>(
     requires stands { (start : takers.Taker S) × StandsAt S.left S.still S.read_faults schema.now header 1 start taker.old scope.old store.old.building bounds.old.nodes head.old }
     ensures trees { store.new.trees ≡ store.old.trees }
     ensures ok { OnOk result ((start : takers.Taker S) → StandsAt S.left S.still S.read_faults schema.now header 1 start taker.old scope.old store.old.building bounds.old.nodes head.old
-        → StandsAt S.left S.still S.read_faults schema.now header (length (header_line schema.now)) start taker.new scope.new store.new.building bounds.new.nodes head.new) }
+        → StandsAt S.left S.still S.read_faults schema.now header
+        (length (header_line schema.now)) start taker.new scope.new store.new.building bounds.new.nodes head.new) }
     ensures err { IfErr result (λ fault. (start : takers.Taker S) → StandsAt S.left S.still S.read_faults schema.now header 1 start taker.old scope.old store.old.building bounds.old.nodes head.old
         → HasNoHeader S.left S.still S.read_faults schema.now start taker.new fault) }
     ensures building { OnErr result (store.new.building ≡ None) }
@@ -259,8 +270,11 @@ fn read_all<S: Source>(
     requires nodes { bounds.old.nodes ≡ 1 }
     requires building { store.old.building ≡ Some (record { top = None; levels = InGroup node.End ∷ [] }) }
     ensures trees { store.new.trees ≡ store.old.trees }
-    ensures ok { IfOk result (λ head. (entries : List Entry) × StandsAt S.left S.still S.read_faults schema.now header (length (header_line schema.now)) taker.old taker.new entries store.new.building bounds.new.nodes head) }
-    ensures err { IfErr result (λ fault. HasNoHeader S.left S.still S.read_faults schema.now taker.old taker.new fault) }
+    ensures ok { IfOk result (λ head. (entries : List Entry)
+        × StandsAt S.left S.still S.read_faults schema.now header
+        (length (header_line schema.now)) taker.old taker.new entries store.new.building bounds.new.nodes head) }
+    ensures err { IfErr result
+        (λ fault. HasNoHeader S.left S.still S.read_faults schema.now taker.old taker.new fault) }
     ensures building { OnErr result (store.new.building ≡ None) }
 {
     let mut scope = Scope::new(alloc);

@@ -32,7 +32,9 @@ fn behind_front<'a>(front: &[u8], bytes: &'a [u8]) -> Option<&'a [u8]>
 
 /// The text of the version in a line; none where the line has neither form.
 fn version_text(line: &[u8]) -> Option<&[u8]>
-    ensures { option_map (λ text. text.now) result ≡ option_or (behind_front (codes "NetImmerse File Format, Version ") line.now) (behind_front (codes "Gamebryo File Format, Version ") line.now) }
+    ensures { option_map (λ text. text.now) result
+        ≡ option_or (behind_front (codes "NetImmerse File Format, Version ") line.now)
+        (behind_front (codes "Gamebryo File Format, Version ") line.now) }
 {
     match behind_front(b"NetImmerse File Format, Version ".as_slice(), line) {
         Some(text) => Some(text),
@@ -53,7 +55,9 @@ fn line_version(line: &[u8]) -> Option<Version>
 
 /// The version of the first line, or why this line is refused.
 pub(crate) fn version_of_line(line: &[u8]) -> Result<Version, FileFault>
-    ensures { MatchResult result (λ version. (line_version line.now ≡ Some version.number) × (line_fault line.now ≡ None)) (λ fault. line_fault line.now ≡ Some (record { fault = fault; known = length line.now + 1 })) }
+    ensures { MatchResult result (λ version. (line_version line.now ≡ Some version.number)
+        × (line_fault line.now ≡ None)) (λ fault. line_fault line.now
+        ≡ Some (record { fault = fault; known = length line.now + 1 })) }
 {
     match line_version(line) {
         Some(version) if LOWEST_VERSION <= version.number && version.number <= HIGHEST_VERSION =>
@@ -133,7 +137,8 @@ fn latest_order(before: Order, is_named: bool, number: u64) -> Order
 
 /// Why `Endian Type` is refused, if it is.
 fn order_refusal(value: u8) -> Option<FileFault>
-    ensures { (E : Env) → result ≡ option_map (λ stop. stop.fault) (refuse_where (nat_lt 1 value) (FileFault.EndianValue value) E) }
+    ensures { (E : Env) → result ≡ option_map (λ stop. stop.fault)
+        (refuse_where (nat_lt 1 value) (FileFault.EndianValue value) E) }
 {
     if value > 1 {
         return Some(FileFault::EndianValue { value });
@@ -143,7 +148,8 @@ fn order_refusal(value: u8) -> Option<FileFault>
 
 /// Why `Num Blocks` is refused, if it is.
 fn blocks_refusal(count: u32) -> Option<FileFault>
-    ensures { (E : Env) → result ≡ option_map (λ stop. stop.fault) (refuse_where (nat_lt most_blocks count) (FileFault.TooManyBlocks count) E) }
+    ensures { (E : Env) → result ≡ option_map (λ stop. stop.fault)
+        (refuse_where (nat_lt most_blocks count) (FileFault.TooManyBlocks count) E) }
 {
     if count > MOST_BLOCKS {
         return Some(FileFault::TooManyBlocks { count });
@@ -153,7 +159,8 @@ fn blocks_refusal(count: u32) -> Option<FileFault>
 
 /// Why `Num Block Types` is refused, if it is.
 fn types_refusal(count: u32) -> Option<FileFault>
-    ensures { (E : Env) → result ≡ option_map (λ stop. stop.fault) (refuse_where (nat_lt most_types count) (FileFault.TooManyTypes count) E) }
+    ensures { (E : Env) → result ≡ option_map (λ stop. stop.fault)
+        (refuse_where (nat_lt most_types count) (FileFault.TooManyTypes count) E) }
 {
     if count > MOST_TYPES {
         return Some(FileFault::TooManyTypes { count });
@@ -164,7 +171,8 @@ fn types_refusal(count: u32) -> Option<FileFault>
 impl Head {
     /// Behind the line alone.
     pub(crate) fn new(version: Version) -> Head
-        ensures { (S : Schema) (f : Field) (line : List ℕ) → f.name ≡ codes "Header String" → line_version line ≡ Some version.number → IsHead S (behind f (Some (node.Line line)) []) result }
+        ensures { (S : Schema) (f : Field) (line : List ℕ) → f.name ≡ codes "Header String"
+            → line_version line ≡ Some version.number → IsHead S (behind f (Some (node.Line line)) []) result }
     {
         Head {
             version,
@@ -184,8 +192,10 @@ impl Head {
     /// `BS Version`; a number is 0 where there is none.
     pub(crate) fn add(&mut self, name: &[u8], number: u64, inner: u64)
         requires { IsSmall name.now number inner }
-        ensures { (S : Schema) (E : Env) (earlier : Earlier) (f : Field) (at : Node) → IsHead S (earlier ∷ E) self.old → f.name ≡ name.now → number ≡ number_in false at
-            → (bytes_eq (codes "BS Header") f.name ≡ true → inner ≡ inner_number S (codes "BS Version") f at) → IsHead S (behind f (Some at) (earlier ∷ E)) self.new }
+        ensures { (S : Schema) (E : Env) (earlier : Earlier) (f : Field) (at : Node) → IsHead S (earlier ∷ E) self.old
+            → f.name ≡ name.now → number ≡ number_in false at
+            → (bytes_eq (codes "BS Header") f.name ≡ true → inner ≡ inner_number S (codes "BS Version") f at)
+            → IsHead S (behind f (Some at) (earlier ∷ E)) self.new }
     {
         self.user = latest(self.user, is_name(b"User Version".as_slice(), name), number);
         self.second = latest_present(
@@ -230,7 +240,9 @@ impl Head {
 
     /// Why `Version` is refused, if it is.
     fn version_refusal(&self, number: u32) -> Option<FileFault>
-        ensures { (S : Schema) (E : Env) → IsHead S E self.now → result ≡ option_map (λ stop. stop.fault) (refuse_where (not (nat_eq number (version_in E))) (FileFault.VersionDisagrees (version_in E) number) E) }
+        ensures { (S : Schema) (E : Env) → IsHead S E self.now
+            → result ≡ option_map (λ stop. stop.fault) (refuse_where (not (nat_eq number (version_in E)))
+            (FileFault.VersionDisagrees (version_in E) number) E) }
     {
         if number == self.version.number {
             return None;
@@ -243,7 +255,9 @@ impl Head {
 
     /// Why the BS version is refused, if it is.
     fn bs_refusal(&self) -> Option<FileFault>
-        ensures { (S : Schema) (E : Env) → IsHead S E self.now → result ≡ option_map (λ stop. stop.fault) (refuse_where (nat_lt highest_bs (bs_version S E)) (FileFault.BsRange (bs_version S E)) E) }
+        ensures { (S : Schema) (E : Env) → IsHead S E self.now
+            → result ≡ option_map (λ stop. stop.fault) (refuse_where (nat_lt highest_bs (bs_version S E))
+            (FileFault.BsRange (bs_version S E)) E) }
     {
         let value = self.bs();
         if value > HIGHEST_BS {
@@ -255,7 +269,8 @@ impl Head {
     /// Why the last member is refused, by its name and number, if it is.
     pub(crate) fn refusal(&self, name: &[u8], number: u64) -> Option<FileFault>
         requires small { (inner : ℕ) × IsSmall name.now number inner }
-        ensures { (S : Schema) (E : Env) → IsHead S E self.now → result ≡ option_map (λ stop. stop.fault) (member_fault S name.now number E) }
+        ensures { (S : Schema) (E : Env) → IsHead S E self.now
+            → result ≡ option_map (λ stop. stop.fault) (member_fault S name.now number E) }
     {
         if name == b"Version".as_slice() {
             return self.version_refusal(number as u32);
@@ -277,7 +292,9 @@ impl Head {
 
     /// Whether the list of types is wanted and isn't there.
     pub(crate) fn lacks_types(&self) -> bool
-        ensures { (S : Schema) (E : Env) → IsHead S E self.now → result ≡ is_some (member (codes "Block Type Index") E) && (is_none (member (codes "Num Block Types") E) || is_none (member (codes "Block Types") E)) }
+        ensures { (S : Schema) (E : Env) → IsHead S E self.now
+            → result ≡ is_some (member (codes "Block Type Index") E)
+            && (is_none (member (codes "Num Block Types") E) || is_none (member (codes "Block Types") E)) }
     {
         self.has_index && (!self.has_types || !self.has_names)
     }

@@ -18,7 +18,8 @@ use Rattle.nif_file_reader.specs.Known.{block_trees}
 
 -- The store holds the trees of this file and no others, each under a key of its own, and builds none.
 pub record HoldsFile (parts : GraphParts) (F : File) : Type 0 where
-  pub trees : parts.store.trees ≡ (parts.header.run.key, F.header) ∷ block_trees parts.blocks F.blocks ++ (parts.footer.run.key, F.footer) ∷ []
+  pub trees : parts.store.trees ≡ (parts.header.run.key, F.header) ∷ block_trees parts.blocks F.blocks
+      ++ (parts.footer.run.key, F.footer) ∷ []
   pub apart : AreApart parts.store.trees
   pub building : parts.store.building ≡ None
 
@@ -38,7 +39,8 @@ pub record HasFault (S : Schema) (fault : FileFault) (rest : Option (List ℕ)) 
   pub gone : IfSome rest (λ left. length bytes ≤ known + 4096 + length left)
 
 -- There is no file: a read failed, memory ran out, or the bytes show the fault.
-pub record HasNoFile {T : Type 0} (left : T → Option (List ℕ)) (faults : T → ℕ) (S : Schema) (old new : Taker T) (fault : FileFault) : Type 0 where
+pub record HasNoFile {T : Type 0} (left : T → Option (List ℕ)) (faults : T → ℕ) (S : Schema) (old new : Taker T)
+    (fault : FileFault) : Type 0 where
   pub read : fault ≡ file.ReadFault → Rose (faults (source_of old)) (faults (source_of new))
   pub stops : fault ≢ file.ReadFault → fault ≢ file.NoMemory
       → IfSome (left_of left old) (HasFault S fault (left (source_of new)))

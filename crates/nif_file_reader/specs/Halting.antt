@@ -22,7 +22,10 @@ pub record StopsHere (Stops : Part) (fault : FileFault) (rest : Option (List ℕ
 
 -- The part was not read, behind so many nodes: a read failed, memory ran out, or the bytes that are left show the
 -- fault.
-pub record Halts {S : Type 0} (left : S → Option (List ℕ)) (still : S → S → Type 0) (faults : S → ℕ) (Stops : Part) (nodes : ℕ) (old new : Taker S) (fault : FileFault) : Type 0 where
+pub record Halts {S : Type 0} (left : S → Option (List ℕ)) (still : S → S → Type 0) (faults : S → ℕ) (Stops : Part)
+    (nodes : ℕ) (old new : Taker S) (fault : FileFault) : Type 0 where
   pub went : Went still faults old new
   pub read : fault ≡ file.ReadFault → Rose (faults (source_of old)) (faults (source_of new))
-  pub stops : fault ≢ file.ReadFault → fault ≢ file.NoMemory → IfSome (left_of left old) (λ bytes. StopsHere Stops fault (left (source_of new)) (record { nodes = nodes; place = place_of old; left = bytes }))
+  pub stops : fault ≢ file.ReadFault → fault ≢ file.NoMemory
+      → IfSome (left_of left old) (λ bytes. StopsHere Stops fault (left (source_of new))
+      (record { nodes = nodes; place = place_of old; left = bytes }))

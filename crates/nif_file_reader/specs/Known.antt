@@ -23,23 +23,29 @@ use Rattle.nif_file.specs.Heads.{ArePlaces, context_of}
 use Rattle.nif_file.specs.PartsSay.{SaysBlocks}
 
 -- The members of the header are these, and what is kept of them says what they say.
-pub record Knows (S : Schema) (members : Members) (header : Header) (lists : Listed) (trees : List (ℕ × Node)) : Type 0 where
+pub record Knows (S : Schema) (members : Members) (header : Header) (lists : Listed)
+    (trees : List (ℕ × Node)) : Type 0 where
   pub schema : IsSchema S
   pub roles : Roles S
   pub is : IsHeader S (node.Group members)
-  pub context : context_of header.context header.bounds.blocks header.bounds.strings ≡ file_context S (head_of S members)
+  pub context : context_of header.context header.bounds.blocks header.bounds.strings
+      ≡ file_context S (head_of S members)
   pub places : ArePlaces S header.places
   pub said_lists : AreListsOf S (head_of S members) lists
   pub found : find trees header.tree.run.key ≡ Some (node.Group members)
 
 -- What names the type of block k was read, and the type may be that of a block.
-pub record ReadsType {S : Type 0} (left : S → Option (List ℕ)) (still : S → S → Type 0) (faults : S → ℕ) (schema : Schema) (members : Members) (k : ℕ) (old new : Taker S) (kind : ℕ) : Type 0 where
+pub record ReadsType {S : Type 0} (left : S → Option (List ℕ)) (still : S → S → Type 0) (faults : S → ℕ)
+    (schema : Schema) (members : Members) (k : ℕ) (old new : Taker S) (kind : ℕ) : Type 0 where
   pub type : IsBlockType schema kind
   pub indexed : IsIndexed schema (head_of schema members) k kind
-  pub takes : Takes left still faults old (name_where (index_word (head_of schema members) k) (order_in (head_of schema members)) (name_of schema kind)) new
+  pub takes : Takes left still faults old (name_where (index_word (head_of schema members) k)
+      (order_in (head_of schema members)) (name_of schema kind)) new
 
 -- The value of a block of this type was read into a new tree, and its nodes were counted.
-pub record ReadsValue {S : Type 0} (left : S → Option (List ℕ)) (still : S → S → Type 0) (faults : S → ℕ) (schema : Schema) (members : Members) (kind : ℕ) (old new : Taker S) (counted now : ℕ) (before after : Trees) (tree : TreeId) : Type 0 where
+pub record ReadsValue {S : Type 0} (left : S → Option (List ℕ)) (still : S → S → Type 0) (faults : S → ℕ)
+    (schema : Schema) (members : Members) (kind : ℕ) (old new : Taker S) (counted now : ℕ) (before after : Trees)
+    (tree : TreeId) : Type 0 where
   pub node : Node
   pub is : IsValue schema (head_of schema members) kind node
   pub takes : Takes left still faults old (text (order_in (head_of schema members)) node) new
@@ -54,17 +60,22 @@ block_trees (part ∷ parts) (block ∷ blocks) = (part.tree.run.key, block.node
 block_trees _ _ = []
 
 -- Block k was read into a new tree, and its nodes were counted.
-pub record HasBlock {S : Type 0} (left : S → Option (List ℕ)) (still : S → S → Type 0) (faults : S → ℕ) (schema : Schema) (members : Members) (k : ℕ) (old new : Taker S) (counted now : ℕ) (before after : Trees) (part : BlockPart) : Type 0 where
+pub record HasBlock {S : Type 0} (left : S → Option (List ℕ)) (still : S → S → Type 0) (faults : S → ℕ)
+    (schema : Schema) (members : Members) (k : ℕ) (old new : Taker S) (counted now : ℕ) (before after : Trees)
+    (part : BlockPart) : Type 0 where
   pub node : Node
   pub is : IsBlock schema (head_of schema members) k (record { kind = part.kind; index = part.index_word; node = node })
-  pub takes : Takes left still faults old (block_text schema (head_of schema members) k (record { kind = part.kind; index = part.index_word; node = node })) new
+  pub takes : Takes left still faults old (block_text schema (head_of schema members) k
+      (record { kind = part.kind; index = part.index_word; node = node })) new
   pub nodes : now ≡ counted + nodes node
   pub few : now ≤ most_nodes
   pub fresh : find before.trees part.tree.run.key ≡ None
   pub trees : after.trees ≡ before.trees ++ (part.tree.run.key, node) ∷ []
 
 -- The first blocks were read, so many of them.
-pub record HasBlocks {S : Type 0} (left : S → Option (List ℕ)) (still : S → S → Type 0) (faults : S → ℕ) (schema : Schema) (members : Members) (count : ℕ) (old new : Taker S) (counted now : ℕ) (before after : Trees) (parts : List BlockPart) : Type 0 where
+pub record HasBlocks {S : Type 0} (left : S → Option (List ℕ)) (still : S → S → Type 0) (faults : S → ℕ)
+    (schema : Schema) (members : Members) (count : ℕ) (old new : Taker S) (counted now : ℕ) (before after : Trees)
+    (parts : List BlockPart) : Type 0 where
   pub blocks : List Block
   pub are : AreBlocks schema (head_of schema members) 0 blocks
   pub long : length blocks ≡ count
@@ -76,7 +87,9 @@ pub record HasBlocks {S : Type 0} (left : S → Option (List ℕ)) (still : S �
   pub apart : AreApart after.trees
 
 -- The footer was read into a new tree, and its nodes were counted.
-pub record ReadsFooter {S : Type 0} (left : S → Option (List ℕ)) (still : S → S → Type 0) (faults : S → ℕ) (schema : Schema) (members : Members) (old new : Taker S) (counted now : ℕ) (before after : Trees) (tree : TreeId) : Type 0 where
+pub record ReadsFooter {S : Type 0} (left : S → Option (List ℕ)) (still : S → S → Type 0) (faults : S → ℕ)
+    (schema : Schema) (members : Members) (old new : Taker S) (counted now : ℕ) (before after : Trees)
+    (tree : TreeId) : Type 0 where
   pub node : Node
   pub is : IsFooter schema (head_of schema members) node
   pub takes : Takes left still faults old (text (order_in (head_of schema members)) node) new
@@ -86,13 +99,16 @@ pub record ReadsFooter {S : Type 0} (left : S → Option (List ℕ)) (still : S 
   pub trees : after.trees ≡ before.trees ++ (tree.run.key, node) ∷ []
 
 -- All behind the header was read: so many blocks, the footer, and nothing more.
-pub record HasRest {S : Type 0} (left : S → Option (List ℕ)) (still : S → S → Type 0) (faults : S → ℕ) (schema : Schema) (members : Members) (count : ℕ) (old new : Taker S) (counted now : ℕ) (before after : Trees) (parts : List BlockPart) (tree : TreeId) : Type 0 where
+pub record HasRest {S : Type 0} (left : S → Option (List ℕ)) (still : S → S → Type 0) (faults : S → ℕ) (schema : Schema)
+    (members : Members) (count : ℕ) (old new : Taker S) (counted now : ℕ) (before after : Trees)
+    (parts : List BlockPart) (tree : TreeId) : Type 0 where
   pub blocks : List Block
   pub footer : Node
   pub are : AreBlocks schema (head_of schema members) 0 blocks
   pub long : length blocks ≡ count
   pub is : IsFooter schema (head_of schema members) footer
-  pub takes : Takes left still faults old (blocks_text schema (head_of schema members) 0 blocks ++ text (order_in (head_of schema members)) footer) new
+  pub takes : Takes left still faults old (blocks_text schema (head_of schema members) 0 blocks
+      ++ text (order_in (head_of schema members)) footer) new
   pub end : IsAtEnd (left_of left new)
   pub nodes : now ≡ counted + (block_nodes blocks + nodes footer)
   pub few : now ≤ most_nodes

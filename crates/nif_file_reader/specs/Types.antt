@@ -26,4 +26,5 @@ RefusesName S block name fault = Refuses (NameRefused S block name) fault
 -- the name of an entry of the types names no block type
 abbrev pub NamesNone : Schema → Members → ℕ → ℕ → FileFault → Type 0
 NamesNone S members block entry fault =
-    (fault ≢ file.ReadFault) × (fault ≢ file.NoMemory → (name : Name) → slice_get (type_names (head_of S members)) entry ≡ Some name → fault ≡ file.UnknownType block name)
+    (fault ≢ file.ReadFault) × (fault ≢ file.NoMemory → (name : Name)
+    → slice_get (type_names (head_of S members)) entry ≡ Some name → fault ≡ file.UnknownType block name)

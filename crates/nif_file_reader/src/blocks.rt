@@ -34,8 +34,10 @@ fn take_zero_word<S: Source>(
 ) -> Result<(), FileFault>
     requires { IsReadyTaker taker.old }
     ensures ok { OnOk result (Takes S.left S.still S.read_faults taker.old (zero_where true) taker.new) }
-    ensures err { IfErr result (λ fault. (schema : Schema) (members : Members) (nodes : ℕ) → order_in (head_of schema members) ≡ order
-        → Halts S.left S.still S.read_faults (λ total. ZeroFailsBy true total (head_of schema members) block) nodes taker.old taker.new fault) }
+    ensures err { IfErr result (λ fault. (schema : Schema) (members : Members) (nodes : ℕ)
+        → order_in (head_of schema members) ≡ order
+        → Halts S.left S.still S.read_faults (λ total. ZeroFailsBy true total
+        (head_of schema members) block) nodes taker.old taker.new fault) }
 {
     match take_number(order == Order::Little, 4, taker) {
         Ok(0) => Ok(()),
@@ -54,9 +56,12 @@ fn read_zero_word<S: Source>(
     taker: &mut Taker<'_, S>,
 ) -> Result<(), FileFault>
     requires { IsReadyTaker taker.old }
-    ensures ok { OnOk result (Takes S.left S.still S.read_faults taker.old (zero_where (has_zero_word context.version.number)) taker.new) }
-    ensures err { IfErr result (λ fault. (schema : Schema) (members : Members) (nodes : ℕ) → order_in (head_of schema members) ≡ context.order
-        → Halts S.left S.still S.read_faults (λ total. ZeroFailsBy (has_zero_word context.version.number) total (head_of schema members) block) nodes taker.old taker.new fault) }
+    ensures ok { OnOk result (Takes S.left S.still S.read_faults taker.old
+        (zero_where (has_zero_word context.version.number)) taker.new) }
+    ensures err { IfErr result (λ fault. (schema : Schema) (members : Members) (nodes : ℕ)
+        → order_in (head_of schema members) ≡ context.order
+        → Halts S.left S.still S.read_faults (λ total. ZeroFailsBy (has_zero_word context.version.number) total
+        (head_of schema members) block) nodes taker.old taker.new fault) }
 {
     if has_zero_word(context.version) {
         return take_zero_word(context.order, block, taker);
@@ -77,14 +82,21 @@ fn read_value<S: Source>(
     requires ready { IsReadyTaker taker.old }
     requires counted { bounds.old.nodes ≤ most_nodes }
     requires building { store.old.building ≡ None }
-    requires bounds { (bounds.old.blocks ≡ at.now.header.now.bounds.blocks) × (bounds.old.strings ≡ at.now.header.now.bounds.strings) }
+    requires bounds { (bounds.old.blocks ≡ at.now.header.now.bounds.blocks)
+        × (bounds.old.strings ≡ at.now.header.now.bounds.strings) }
     ensures blocks { bounds.new.blocks ≡ bounds.old.blocks }
     ensures strings { bounds.new.strings ≡ bounds.old.strings }
     ensures building { store.new.building ≡ None }
-    ensures ok { IfOk result (λ tree. (members : Members) → Knows at.now.checked.now members at.now.header.now at.now.lists.now store.old.trees
+    ensures ok { IfOk result (λ tree. (members : Members)
+        → Knows at.now.checked.now members at.now.header.now at.now.lists.now store.old.trees
         → ReadsValue S.left S.still S.read_faults at.now.checked.now members kind taker.old taker.new bounds.old.nodes bounds.new.nodes store.old store.new tree) }
-    ensures err { IfErr result (λ fault. (members : Members) → Knows at.now.checked.now members at.now.header.now at.now.lists.now store.old.trees
-        → Halts S.left S.still S.read_faults (λ total. Lifted (of_value total) (Fails at.now.checked.now (block_context at.now.checked.now (head_of at.now.checked.now members) kind) most_depth (block_kind at.now.checked.now (head_of at.now.checked.now members) kind))) bounds.old.nodes taker.old taker.new fault) }
+    ensures err { IfErr result (λ fault. (members : Members)
+        → Knows at.now.checked.now members at.now.header.now at.now.lists.now store.old.trees
+        → Halts S.left S.still S.read_faults (λ total. Lifted (of_value total)
+        (Fails at.now.checked.now (block_context at.now.checked.now
+        (head_of at.now.checked.now members) kind) most_depth
+        (block_kind at.now.checked.now
+        (head_of at.now.checked.now members) kind))) bounds.old.nodes taker.old taker.new fault) }
 {
     let schema = at.checked.schema();
     match decode_value(alloc, schema, at.header.context, kind, taker, store, bounds) {
@@ -120,15 +132,20 @@ fn read_block<S: Source>(
     requires ready { IsReadyTaker taker.old }
     requires counted { bounds.old.nodes ≤ most_nodes }
     requires building { store.old.building ≡ None }
-    requires bounds { (bounds.old.blocks ≡ at.now.header.now.bounds.blocks) × (bounds.old.strings ≡ at.now.header.now.bounds.strings) }
-    requires knows { (members : Members) × Knows at.now.checked.now members at.now.header.now at.now.lists.now store.old.trees }
+    requires bounds { (bounds.old.blocks ≡ at.now.header.now.bounds.blocks)
+        × (bounds.old.strings ≡ at.now.header.now.bounds.strings) }
+    requires knows { (members : Members)
+        × Knows at.now.checked.now members at.now.header.now at.now.lists.now store.old.trees }
     ensures blocks { bounds.new.blocks ≡ bounds.old.blocks }
     ensures strings { bounds.new.strings ≡ bounds.old.strings }
     ensures building { store.new.building ≡ None }
-    ensures ok { IfOk result (λ part. (members : Members) → Knows at.now.checked.now members at.now.header.now at.now.lists.now store.old.trees
+    ensures ok { IfOk result (λ part. (members : Members)
+        → Knows at.now.checked.now members at.now.header.now at.now.lists.now store.old.trees
         → HasBlock S.left S.still S.read_faults at.now.checked.now members block taker.old taker.new bounds.old.nodes bounds.new.nodes store.old store.new part) }
-    ensures err { IfErr result (λ fault. (members : Members) → Knows at.now.checked.now members at.now.header.now at.now.lists.now store.old.trees
-        → Halts S.left S.still S.read_faults (λ total. BlockFails at.now.checked.now total (head_of at.now.checked.now members) block) bounds.old.nodes taker.old taker.new fault) }
+    ensures err { IfErr result (λ fault. (members : Members)
+        → Knows at.now.checked.now members at.now.header.now at.now.lists.now store.old.trees
+        → Halts S.left S.still S.read_faults (λ total. BlockFails at.now.checked.now total
+        (head_of at.now.checked.now members) block) bounds.old.nodes taker.old taker.new fault) }
 {
     let kind = match read_type(alloc, at, store, block, taker) {
         Ok(kind) => kind,
@@ -166,14 +183,18 @@ pub(crate) fn read_blocks<S: Source>(
     requires counted { bounds.old.nodes ≤ most_nodes }
     requires building { store.old.building ≡ None }
     requires apart { AreApart store.old.trees }
-    requires bounds { (bounds.old.blocks ≡ at.now.header.now.bounds.blocks) × (bounds.old.strings ≡ at.now.header.now.bounds.strings) }
-    requires knows { (members : Members) × Knows at.now.checked.now members at.now.header.now at.now.lists.now store.old.trees }
+    requires bounds { (bounds.old.blocks ≡ at.now.header.now.bounds.blocks)
+        × (bounds.old.strings ≡ at.now.header.now.bounds.strings) }
+    requires knows { (members : Members)
+        × Knows at.now.checked.now members at.now.header.now at.now.lists.now store.old.trees }
     ensures blocks { bounds.new.blocks ≡ bounds.old.blocks }
     ensures strings { bounds.new.strings ≡ bounds.old.strings }
     ensures building { store.new.building ≡ None }
-    ensures ok { IfOk result (λ parts. (members : Members) → Knows at.now.checked.now members at.now.header.now at.now.lists.now store.old.trees
+    ensures ok { IfOk result (λ parts. (members : Members)
+        → Knows at.now.checked.now members at.now.header.now at.now.lists.now store.old.trees
         → HasBlocks S.left S.still S.read_faults at.now.checked.now members at.now.header.now.bounds.blocks taker.old taker.new bounds.old.nodes bounds.new.nodes store.old store.new parts) }
-    ensures err { IfErr result (λ fault. (members : Members) → Knows at.now.checked.now members at.now.header.now at.now.lists.now store.old.trees
+    ensures err { IfErr result (λ fault. (members : Members)
+        → Knows at.now.checked.now members at.now.header.now at.now.lists.now store.old.trees
         → Halts S.left S.still S.read_faults (λ total. BlocksFail at.now.checked.now total (head_of at.now.checked.now members) 0 at.now.header.now.bounds.blocks) bounds.old.nodes taker.old taker.new fault) }
 {
     let mut blocks = Blocks::new(alloc);

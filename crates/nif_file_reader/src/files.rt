@@ -38,13 +38,20 @@ fn read_footer<S: Source>(
     requires ready { IsReadyTaker taker.old }
     requires counted { bounds.old.nodes ≤ most_nodes }
     requires building { store.old.building ≡ None }
-    requires bounds { (bounds.old.blocks ≡ at.now.header.now.bounds.blocks) × (bounds.old.strings ≡ at.now.header.now.bounds.strings) }
-    requires knows { (members : Members) × Knows at.now.checked.now members at.now.header.now at.now.lists.now store.old.trees }
+    requires bounds { (bounds.old.blocks ≡ at.now.header.now.bounds.blocks)
+        × (bounds.old.strings ≡ at.now.header.now.bounds.strings) }
+    requires knows { (members : Members)
+        × Knows at.now.checked.now members at.now.header.now at.now.lists.now store.old.trees }
     ensures building { store.new.building ≡ None }
-    ensures ok { IfOk result (λ tree. (members : Members) → Knows at.now.checked.now members at.now.header.now at.now.lists.now store.old.trees
+    ensures ok { IfOk result (λ tree. (members : Members)
+        → Knows at.now.checked.now members at.now.header.now at.now.lists.now store.old.trees
         → ReadsFooter S.left S.still S.read_faults at.now.checked.now members taker.old taker.new bounds.old.nodes bounds.new.nodes store.old store.new tree) }
-    ensures err { IfErr result (λ fault. (members : Members) → Knows at.now.checked.now members at.now.header.now at.now.lists.now store.old.trees
-        → Halts S.left S.still S.read_faults (λ total. Lifted (of_value total) (Fails at.now.checked.now (file_context at.now.checked.now (head_of at.now.checked.now members)) most_depth (footer_kind at.now.checked.now (head_of at.now.checked.now members)))) bounds.old.nodes taker.old taker.new fault) }
+    ensures err { IfErr result (λ fault. (members : Members)
+        → Knows at.now.checked.now members at.now.header.now at.now.lists.now store.old.trees
+        → Halts S.left S.still S.read_faults (λ total. Lifted (of_value total)
+        (Fails at.now.checked.now (file_context at.now.checked.now (head_of at.now.checked.now members)) most_depth
+        (footer_kind at.now.checked.now
+        (head_of at.now.checked.now members)))) bounds.old.nodes taker.old taker.new fault) }
 {
     match decode_value(
         alloc,
@@ -65,7 +72,8 @@ fn end_file<S: Source>(taker: &mut Taker<'_, S>) -> Result<(), FileFault>
     requires { IsReadyTaker taker.old }
     ensures ok { OnOk result (Takes S.left S.still S.read_faults taker.old [] taker.new) }
     ensures end { OnOk result (IsAtEnd (left_of S.left taker.old)) }
-    ensures err { IfErr result (λ fault. (nodes : ℕ) → Halts S.left S.still S.read_faults (λ total. IsTrailing) nodes taker.old taker.new fault) }
+    ensures err { IfErr result (λ fault. (nodes : ℕ)
+        → Halts S.left S.still S.read_faults (λ total. IsTrailing) nodes taker.old taker.new fault) }
 {
     let at = taker.place();
     match taker.at_end() {
@@ -87,13 +95,18 @@ fn read_rest<S: Source>(
     requires counted { bounds.old.nodes ≤ most_nodes }
     requires building { store.old.building ≡ None }
     requires apart { AreApart store.old.trees }
-    requires bounds { (bounds.old.blocks ≡ at.now.header.now.bounds.blocks) × (bounds.old.strings ≡ at.now.header.now.bounds.strings) }
-    requires knows { (members : Members) × Knows at.now.checked.now members at.now.header.now at.now.lists.now store.old.trees }
+    requires bounds { (bounds.old.blocks ≡ at.now.header.now.bounds.blocks)
+        × (bounds.old.strings ≡ at.now.header.now.bounds.strings) }
+    requires knows { (members : Members)
+        × Knows at.now.checked.now members at.now.header.now at.now.lists.now store.old.trees }
     ensures building { store.new.building ≡ None }
-    ensures ok { IfOk result (λ rest. (members : Members) → Knows at.now.checked.now members at.now.header.now at.now.lists.now store.old.trees
+    ensures ok { IfOk result (λ rest. (members : Members)
+        → Knows at.now.checked.now members at.now.header.now at.now.lists.now store.old.trees
         → HasRest S.left S.still S.read_faults at.now.checked.now members at.now.header.now.bounds.blocks taker.old taker.new bounds.old.nodes bounds.new.nodes store.old store.new rest.0 rest.1) }
-    ensures err { IfErr result (λ fault. (members : Members) → Knows at.now.checked.now members at.now.header.now at.now.lists.now store.old.trees
-        → Halts S.left S.still S.read_faults (λ total. BodyFails at.now.checked.now total (head_of at.now.checked.now members)) bounds.old.nodes taker.old taker.new fault) }
+    ensures err { IfErr result (λ fault. (members : Members)
+        → Knows at.now.checked.now members at.now.header.now at.now.lists.now store.old.trees
+        → Halts S.left S.still S.read_faults (λ total. BodyFails at.now.checked.now total
+        (head_of at.now.checked.now members)) bounds.old.nodes taker.old taker.new fault) }
 {
     let blocks = match read_blocks(alloc, at, taker, store, bounds) {
         Ok(blocks) => blocks,

@@ -28,7 +28,8 @@ fn take_bytes<S: Source>(
     requires { IsReadyTaker taker.old }
     ensures ok { IfOk result (λ bytes. Takes S.left S.still S.read_faults taker.old bytes.items taker.new) }
     ensures count { IfOk result (λ bytes. length bytes.items ≡ count) }
-    ensures err { IfErr result (λ fault. (start : takers.Taker S) (front : List ℕ) → Takes S.left S.still S.read_faults start front taker.old → place_of start ≡ at
+    ensures err { IfErr result (λ fault. (start : takers.Taker S) (front : List ℕ)
+        → Takes S.left S.still S.read_faults start front taker.old → place_of start ≡ at
         → Ends S.left S.still S.read_faults (shortage (length front + count)) start taker.new (cause fault)) }
 {
     let mut bytes = Vec::new(alloc);
@@ -57,8 +58,11 @@ pub(crate) fn take_sized<S: Source>(
     taker: &mut Taker<'_, S>,
 ) -> Result<Vec<u8>, FileFault>
     requires { IsReadyTaker taker.old }
-    ensures ok { IfOk result (λ name. Takes S.left S.still S.read_faults taker.old (sized_string order name.items) taker.new) }
-    ensures err { IfErr result (λ fault. (nodes : ℕ) → Halts S.left S.still S.read_faults (λ total at stop. PartFails total (sized_needs order at.left) at stop) nodes taker.old taker.new fault) }
+    ensures ok { IfOk result (λ name. Takes S.left S.still S.read_faults taker.old
+        (sized_string order name.items) taker.new) }
+    ensures err { IfErr result (λ fault. (nodes : ℕ)
+        → Halts S.left S.still S.read_faults (λ total at stop. PartFails total
+        (sized_needs order at.left) at stop) nodes taker.old taker.new fault) }
 {
     let at = taker.place();
     let length = match take_number(order == Order::Little, 4, taker) {

@@ -80,8 +80,10 @@ fn unknown_entry(
     block: u32,
     entry: u32,
 ) -> FileFault
-    requires { (members : Members) × Knows at.now.checked.now members at.now.header.now at.now.lists.now store.now.trees }
-    ensures { (members : Members) → Knows at.now.checked.now members at.now.header.now at.now.lists.now store.now.trees → NamesNone at.now.checked.now members block entry result }
+    requires { (members : Members)
+        × Knows at.now.checked.now members at.now.header.now at.now.lists.now store.now.trees }
+    ensures { (members : Members) → Knows at.now.checked.now members at.now.header.now at.now.lists.now store.now.trees
+        → NamesNone at.now.checked.now members block entry result }
 {
     match type_name(alloc, store, at.header.tree, &at.header.places, entry) {
         Ok(name) => FileFault::UnknownType { block, name },
@@ -97,11 +99,16 @@ fn kind_of_entry(
     block: u32,
     word: u16,
 ) -> Result<u32, FileFault>
-    requires { (members : Members) × Knows at.now.checked.now members at.now.header.now at.now.lists.now store.now.trees }
-    ensures ok { IfOk result (λ kind. IsBlockType at.now.checked.now kind × ((members : Members) → Knows at.now.checked.now members at.now.header.now at.now.lists.now store.now.trees
-        → index_word (head_of at.now.checked.now members) block ≡ Some word → IsIndexed at.now.checked.now (head_of at.now.checked.now members) block kind)) }
-    ensures err { IfErr result (λ fault. (members : Members) → Knows at.now.checked.now members at.now.header.now at.now.lists.now store.now.trees
-        → Refuses (λ known stop. EntryRefused at.now.checked.now (head_of at.now.checked.now members) block word (record { nodes = 0; place = known; left = [] }) stop) fault) }
+    requires { (members : Members)
+        × Knows at.now.checked.now members at.now.header.now at.now.lists.now store.now.trees }
+    ensures ok { IfOk result (λ kind. IsBlockType at.now.checked.now kind
+        × ((members : Members) → Knows at.now.checked.now members at.now.header.now at.now.lists.now store.now.trees
+        → index_word (head_of at.now.checked.now members) block ≡ Some word
+        → IsIndexed at.now.checked.now (head_of at.now.checked.now members) block kind)) }
+    ensures err { IfErr result (λ fault. (members : Members)
+        → Knows at.now.checked.now members at.now.header.now at.now.lists.now store.now.trees
+        → Refuses (λ known stop. EntryRefused at.now.checked.now (head_of at.now.checked.now members) block word
+        (record { nodes = 0; place = known; left = [] }) stop) fault) }
 {
     let entry = word % 0x8000;
     match at.lists.type_at(word) {
@@ -122,9 +129,13 @@ fn read_name<S: Source>(
     taker: &mut Taker<'_, S>,
 ) -> Result<u32, FileFault>
     requires { IsReadyTaker taker.old }
-    ensures ok { IfOk result (λ kind. IsBlockType at.now.checked.now kind × Takes S.left S.still S.read_faults taker.old (name_where None at.now.header.now.context.order (name_of at.now.checked.now kind)) taker.new) }
-    ensures err { IfErr result (λ fault. (members : Members) (nodes : ℕ) → nodes ≤ most_nodes → order_in (head_of at.now.checked.now members) ≡ at.now.header.now.context.order
-        → Halts S.left S.still S.read_faults (λ total. NameFails at.now.checked.now total (head_of at.now.checked.now members) block) nodes taker.old taker.new fault) }
+    ensures ok { IfOk result (λ kind. IsBlockType at.now.checked.now kind
+        × Takes S.left S.still S.read_faults taker.old
+        (name_where None at.now.header.now.context.order (name_of at.now.checked.now kind)) taker.new) }
+    ensures err { IfErr result (λ fault. (members : Members) (nodes : ℕ) → nodes ≤ most_nodes
+        → order_in (head_of at.now.checked.now members) ≡ at.now.header.now.context.order
+        → Halts S.left S.still S.read_faults (λ total. NameFails at.now.checked.now total
+        (head_of at.now.checked.now members) block) nodes taker.old taker.new fault) }
 {
     let name = match take_sized(alloc, at.header.context.order, taker) {
         Ok(name) => name,
@@ -142,11 +153,15 @@ pub(crate) fn read_type<S: Source>(
     taker: &mut Taker<'_, S>,
 ) -> Result<u32, FileFault>
     requires ready { IsReadyTaker taker.old }
-    requires knows { (members : Members) × Knows at.now.checked.now members at.now.header.now at.now.lists.now store.now.trees }
-    ensures ok { IfOk result (λ kind. (members : Members) → Knows at.now.checked.now members at.now.header.now at.now.lists.now store.now.trees
+    requires knows { (members : Members)
+        × Knows at.now.checked.now members at.now.header.now at.now.lists.now store.now.trees }
+    ensures ok { IfOk result (λ kind. (members : Members)
+        → Knows at.now.checked.now members at.now.header.now at.now.lists.now store.now.trees
         → ReadsType S.left S.still S.read_faults at.now.checked.now members block taker.old taker.new kind) }
-    ensures err { IfErr result (λ fault. (members : Members) (nodes : ℕ) → nodes ≤ most_nodes → Knows at.now.checked.now members at.now.header.now at.now.lists.now store.now.trees
-        → Halts S.left S.still S.read_faults (λ total. TypeFails at.now.checked.now total (head_of at.now.checked.now members) block) nodes taker.old taker.new fault) }
+    ensures err { IfErr result (λ fault. (members : Members) (nodes : ℕ) → nodes ≤ most_nodes
+        → Knows at.now.checked.now members at.now.header.now at.now.lists.now store.now.trees
+        → Halts S.left S.still S.read_faults (λ total. TypeFails at.now.checked.now total
+        (head_of at.now.checked.now members) block) nodes taker.old taker.new fault) }
 {
     match at.lists.index_word(block) {
         None => read_name(alloc, at, block, taker),

@@ -70,13 +70,15 @@ value_again true k n h =
     ap low_value (ap (λ s. take k s) (sym (append-nil (low_first k n))) ∙ e) ∙ value-low k n h
 value_again false k n h =
     let e : take k (reverse (low_first k n) ++ []) ≡ reverse (low_first k n) = take_front k (reverse (low_first k n)) [] (length_number false k n) in
-    ap low_value (ap reverse (ap (λ s. take k s) (sym (append-nil (reverse (low_first k n)))) ∙ e) ∙ reverse-reverse (low_first k n)) ∙ value-low k n h
+    ap low_value (ap reverse (ap (λ s. take k s) (sym (append-nil (reverse (low_first k n)))) ∙ e)
+    ∙ reverse-reverse (low_first k n)) ∙ value-low k n h
 
 pub number_again : (little : Bool) (k n : ℕ) (rest : List ℕ) → n < 256 ^ k
     → number_at little k (number little k n ++ rest) ≡ n
 number_again true k n rest h = ap low_value (take_front k (low_first k n) rest (length_low k n)) ∙ value-low k n h
 number_again false k n rest h =
-    ap low_value (ap reverse (take_front k (reverse (low_first k n)) rest (length_number false k n)) ∙ reverse-reverse (low_first k n)) ∙ value-low k n h
+    ap low_value (ap reverse (take_front k (reverse (low_first k n)) rest (length_number false k n))
+    ∙ reverse-reverse (low_first k n)) ∙ value-low k n h
 
 -- what follows bytes are bytes
 pub bytes_behind : (s t : List ℕ) → AreBytes (s ++ t) → AreBytes t
@@ -90,7 +92,8 @@ bytes_append (b ∷ s) t hs ht = (hs.0, bytes_append s t hs.1 ht)
 pub bytes_reverse : (s : List ℕ) → AreBytes s → AreBytes (reverse s)
 bytes_reverse [] h = tt
 bytes_reverse (b ∷ s) h =
-    subst AreBytes (sym (reverse-append (b ∷ []) s)) (bytes_append (reverse s) (reverse (b ∷ [])) (bytes_reverse s h.1) (h.0, tt))
+    subst AreBytes (sym (reverse-append (b ∷ []) s))
+    (bytes_append (reverse s) (reverse (b ∷ [])) (bytes_reverse s h.1) (h.0, tt))
 
 pub bytes_take : (k : ℕ) (s : List ℕ) → AreBytes s → AreBytes (take k s)
 bytes_take zero s h = tt

@@ -25,12 +25,17 @@ Cancels order V W = (a b : Node) (x y : List ℕ) → V a → W b → text order
 abbrev pub AllCancel : (Members → List ℕ) → (Members → Type 0) → (Members → Type 0) → Type 0
 AllCancel T V W = (a b : Members) (x y : List ℕ) → V a → W b → T a ++ x ≡ T b ++ y → (a ≡ b) × (x ≡ y)
 
-pub member : (order : Order) (T : Option Node → Members → List ℕ) (here : Bool) (V W : Node → Type 0) (R Q : Option Node → Members → Type 0)
+pub member : (order : Order) (T : Option Node → Members → List ℕ) (here : Bool) (V W : Node → Type 0)
+    (R Q : Option Node → Members → Type 0)
     → Cancels order V W → ((got : Option Node) → AllCancel (T got) (R got) (Q got))
     → AllCancel (member_text order T) (Member here V R) (Member here W Q)
 member order T true V W R Q first rest a b x y ha hb e =
     let e' : text order ha.0 ++ (T (Some ha.0) ha.1 ++ x) ≡ text order hb.0 ++ (T (Some hb.0) hb.1 ++ y) =
-    rw (← append_assoc (text order ha.0) (T (Some ha.0) ha.1) x, ← append_assoc (text order hb.0) (T (Some hb.0) hb.1) y) (rw (ha.2, hb.2) at e) in
+    rw (
+      ← append_assoc (text order ha.0) (T (Some ha.0) ha.1) x,
+      ← append_assoc (text order hb.0)
+          (T (Some hb.0) hb.1) y,
+    ) (rw (ha.2, hb.2) at e) in
     let one = first ha.0 hb.0 (T (Some ha.0) ha.1 ++ x) (T (Some hb.0) hb.1 ++ y) ha.3 hb.3 e' in
     let same : ha.0 ≡ hb.0 = one.0 in
     let P : Node → Type 0 = λ m. R (Some m) ha.1 × (T (Some m) ha.1 ++ x ≡ T (Some hb.0) hb.1 ++ y) in
@@ -48,17 +53,20 @@ member order T false V W R Q first rest a b x y ha hb e =
     let eb : b ≡ Absent hb.0 = hb.1 in
     (cc, more.1)
 
-pub fields_cancel : {Why : Type 0} (order : Env → Order) (here : Env → Field → Bool) (V W : Env → Field → Node → Type 0) (check : Check Why)
+pub fields_cancel : {Why : Type 0} (order : Env → Order) (here : Env → Field → Bool) (V W : Env → Field → Node → Type 0)
+    (check : Check Why)
     → ((E : Env) (f : Field) → Cancels (order E) (V E f) (W E f))
     → (fields : List Field) (E : Env)
     → AllCancel (fields_text order fields E) (Fields here V check fields E) (Fields here W check fields E)
 fields_cancel order here V W check each [] E a b x y ha hb e = (ha ∙ sym hb, e)
 fields_cancel order here V W check each (f ∷ fields) E a b x y ha hb e =
     member (order E) (λ got. fields_text order fields (behind f got E)) (here E f) (V E f) (W E f) _ _ (each E f)
-    (λ got a b x y ha hb e. fields_cancel order here V W check each fields (behind f got E) a b x y ha.1 hb.1 e) a b x y ha hb e
+    (λ got a b x y ha hb e. fields_cancel order here V W check each fields
+    (behind f got E) a b x y ha.1 hb.1 e) a b x y ha hb e
 
 -- In one order the bytes of the members of a line are those of the members.
-pub same_text : {Why : Type 0} (order : Order) (here : Env → Field → Bool) (V : Env → Field → Node → Type 0) (check : Check Why)
+pub same_text : {Why : Type 0} (order : Order) (here : Env → Field → Bool) (V : Env → Field → Node → Type 0)
+    (check : Check Why)
     (fields : List Field) (E : Env) (a : Members) → Fields here V check fields E a
     → fields_text (λ E. order) fields E a ≡ texts order a
 same_text order here V check [] E a h = ap (texts order) (sym h)
@@ -67,7 +75,8 @@ same_text order here V check (f ∷ fields) E a h =
   where
     by : (b : Bool) (a : Members)
         → Member b (V E f) (λ got rest. (check E f got ≡ None) × Fields here V check fields (behind f got E) rest) a
-        → ((got : Option Node) (rest : Members) → Fields here V check fields (behind f got E) rest → fields_text (λ E. order) fields (behind f got E) rest ≡ texts order rest)
+        → ((got : Option Node) (rest : Members) → Fields here V check fields (behind f got E) rest
+        → fields_text (λ E. order) fields (behind f got E) rest ≡ texts order rest)
         → fields_text (λ E. order) (f ∷ fields) E a ≡ texts order a
     by true End h ih = let e : End ≡ Here h.0 h.1 = h.2 in absurd (cc)
     by false End h ih = let e : End ≡ Absent h.0 = h.1 in absurd (cc)
@@ -153,12 +162,14 @@ leaf_cancel C fits (Group fields template arg) a b x y ha hb e = absurd ha
 leaf_cancel C fits Unknown a b x y ha hb e = absurd ha
 
 -- the members of a group
-pub group_cancel : {Why : Type 0} (order : Order) (here : Env → Field → Bool) (V W : Env → Field → Node → Type 0) (check : Check Why)
+pub group_cancel : {Why : Type 0} (order : Order) (here : Env → Field → Bool) (V W : Env → Field → Node → Type 0)
+    (check : Check Why)
     → ((E : Env) (f : Field) → Cancels order (V E f) (W E f))
     → (fields : List Field) → AllCancel (texts order) (Fields here V check fields []) (Fields here W check fields [])
 group_cancel order here V W check each fields a b x y ha hb e =
     fields_cancel (λ E. order) here V W check each fields [] a b x y ha hb
-    (ap (λ s. s ++ x) (same_text order here V check fields [] a ha) ∙ e ∙ ap (λ s. s ++ y) (sym (same_text order here W check fields [] b hb)))
+    (ap (λ s. s ++ x) (same_text order here V check fields [] a ha) ∙ e
+    ∙ ap (λ s. s ++ y) (sym (same_text order here W check fields [] b hb)))
 
 -- Two values of one kind that begin the same bytes are one, whatever their bounds of depth.
 pub shape_cancel : (S : Schema) (C : Context) → Fits C → (c d : ℕ) (kind : Kind)
@@ -172,8 +183,10 @@ shape_cancel S C fits zero d (Group fields template arg) a b x y ha hb e = absur
 shape_cancel S C fits (suc c) zero (Group fields template arg) a b x y ha hb e = absurd hb
 shape_cancel S C fits (suc c) (suc d) (Group fields template arg) a b x y ha hb e =
     let r = group_cancel C.order (present S C arg)
-    (λ E f. IsForm (Shape S C c) (form_of S C template arg E f)) (λ E f. IsForm (Shape S C d) (form_of S C template arg E f)) (no_check {Why = Fault})
-    (λ E f. form_cancel C.order (Shape S C c) (Shape S C d) (λ k. shape_cancel S C fits c d k) (form_of S C template arg E f))
+    (λ E f. IsForm (Shape S C c) (form_of S C template arg E f))
+    (λ E f. IsForm (Shape S C d) (form_of S C template arg E f)) (no_check {Why = Fault})
+    (λ E f. form_cancel C.order (Shape S C c) (Shape S C d) (λ k. shape_cancel S C fits c d k)
+    (form_of S C template arg E f))
     fields ha.0 hb.0 x y ha.2 hb.2 (rw (ha.1, hb.1) at e) in
     (ha.1 ∙ ap (λ m. node.Group m) r.0 ∙ sym hb.1, r.1)
 shape_cancel S C fits c d Unknown a b x y ha hb e = absurd ha
@@ -185,7 +198,10 @@ form_shape_cancel S C fits c d form =
 
 pub line_cancel : {Why : Type 0} (S : Schema) (at : Env → Context) → ((E : Env) → Fits (at E))
     → (c d : ℕ) (template : Option ℕ) (arg : ℕ) (check : Check Why) (fields : List Field) (E : Env)
-    → AllCancel (fields_text (λ E. (at E).order) fields E) (LineShape S at c template arg check fields E) (LineShape S at d template arg check fields E)
+    → AllCancel (fields_text (λ E. (at E).order) fields E) (LineShape S at c template arg check fields E)
+    (LineShape S at d template arg check fields E)
 line_cancel S at fits c d template arg check fields E =
-    fields_cancel (λ E. (at E).order) (λ E f. present S (at E) arg E f) (λ E f. FormShape S (at E) c (form_of S (at E) template arg E f)) (λ E f. FormShape S (at E) d (form_of S (at E) template arg E f))
+    fields_cancel (λ E. (at E).order) (λ E f. present S (at E) arg E f)
+    (λ E f. FormShape S (at E) c (form_of S (at E) template arg E f))
+    (λ E f. FormShape S (at E) d (form_of S (at E) template arg E f))
     check (λ E f. form_shape_cancel S (at E) (fits E) c d (form_of S (at E) template arg E f)) fields E

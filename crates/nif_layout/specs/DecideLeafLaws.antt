@@ -94,7 +94,15 @@ number_inside C width little at w n (inr r) =
     let order = little || is_little C.order in
     let v = number_at order width at.left in
     let t = number_taken order width at.left w.bytes r.1 in
-    inl (node.Num width little v, skip width at, 0, (v, refl, t.1), refl, passes_skip width at (number order width v) t.0 r.1 r.2 n)
+    inl (
+      node.Num width little v,
+      skip width at,
+      0,
+      (v, refl, t.1),
+      refl,
+      passes_skip width at
+          (number order width v) t.0 r.1 r.2 n,
+    )
 
 line_inside : (C : Context) (at : Point) → Within at → at.nodes ≤ most_nodes → (o : Option ℕ)
     → newline 256 at.left ≡ o → Enough (line_needs o) at
@@ -115,13 +123,22 @@ line_inside C at w n (Some k) e (inr r) =
     let P : ℕ → Type 0 = λ j. f.0 ++ 0x0A ∷ [] ≡ take (suc j) at.left in
     let t : f.0 ++ 0x0A ∷ [] ≡ take (suc k) at.left =
     subst P len (sym (take_line f.0 f.1) ∙ ap (λ s. take (suc (length f.0)) s) (sym f.2)) in
-    inl (node.Line f.0, skip (suc k) at, 0, (f.0, refl, f.3, omega arith), refl, passes_skip (suc k) at (f.0 ++ 0x0A ∷ []) t r.1 r.2 n)
+    inl (
+      node.Line f.0,
+      skip (suc k) at,
+      0,
+      (f.0, refl, f.3, omega arith),
+      refl,
+      passes_skip (suc k) at
+          (f.0 ++ 0x0A ∷ []) t r.1 r.2 n,
+    )
 
 place_inside : (order : Order) (V : Node → Type 0) (make : Option ℕ → Node) (most : ℕ) (fault : Fault) (at : Point)
     → ((p : Option ℕ) → IsBelow most p → V (make p)) → ((p : Option ℕ) → nodes (make p) ≡ 1)
     → ((p : Option ℕ) → text order (make p) ≡ number (is_little order) 4 (place_or_none p))
     → Within at → at.nodes ≤ most_nodes → Enough 4 at
-    → Inside order V (λ q w. or_else (shortage 4 q) (range_fault most (number_at (is_little order) 4 q.left) fault) ≡ Some w) at
+    → Inside order V (λ q w. or_else (shortage 4 q) (range_fault most (number_at (is_little order) 4 q.left) fault)
+    ≡ Some w) at
 place_inside order V make most fault at holds one spelled w n (inl r) =
     inr (r.0, ap (λ x. or_else x (range_fault most (number_at (is_little order) 4 at.left) fault)) r.1)
 place_inside order V make most fault at holds one spelled w n (inr r) = by (place_of most v fault t.1)
@@ -132,8 +149,10 @@ place_inside order V make most fault at holds one spelled w n (inr r) = by (plac
     t : (number (is_little order) 4 v ≡ take 4 at.left) × (v < 256 ^ 4)
     t = number_taken (is_little order) 4 at.left w.bytes r.1
 
-    by : (((place : Option ℕ) × IsBelow most place × (place_or_none place ≡ v)) ⊎ (range_fault most v fault ≡ Some fault))
-        → Inside order V (λ q w. or_else (shortage 4 q) (range_fault most (number_at (is_little order) 4 q.left) fault) ≡ Some w) at
+    by : (((place : Option ℕ) × IsBelow most place × (place_or_none place ≡ v))
+        ⊎ (range_fault most v fault ≡ Some fault))
+        → Inside order V (λ q w. or_else (shortage 4 q) (range_fault most (number_at (is_little order) 4 q.left) fault)
+        ≡ Some w) at
     by (inl p) =
         let e : text order (make p.0) ≡ take 4 at.left = spelled p.0 ∙ ap (λ x. number (is_little order) 4 x) p.2 ∙ t.0 in
         inl (make p.0, skip 4 at, 0, holds p.0 p.1, one p.0, passes_skip 4 at (text order (make p.0)) e r.1 r.2 n)
@@ -155,10 +174,12 @@ pub leaf_decides_ref : (C : Context) (strong : Bool) (wanted : Option ℕ)
 leaf_decides_ref C strong wanted at w =
     counted_decides C.order (IsLeaf C (Ref strong wanted)) (λ q x. leaf_fault C (Ref strong wanted) q ≡ Some x)
     (λ q hw hn. place_inside C.order (IsLeaf C (Ref strong wanted)) (λ p. node.Ref strong wanted p) C.blocks
-    (RefRange q.place (number_at (is_little C.order) 4 q.left)) q (λ p h. (p, refl, h)) (λ p. refl) (λ p. refl) hw hn (enough 4 q)) at w
+    (RefRange q.place (number_at (is_little C.order) 4 q.left)) q (λ p h. (p, refl, h)) (λ p. refl) (λ p. refl) hw hn
+    (enough 4 q)) at w
 
 pub leaf_decides_text : (C : Context) → Decides C.order (IsLeaf C Text) (LeafFails C Text)
 leaf_decides_text C at w =
     counted_decides C.order (IsLeaf C Text) (λ q x. leaf_fault C Text q ≡ Some x)
     (λ q hw hn. place_inside C.order (IsLeaf C Text) (λ p. node.Text p) C.strings
-    (StringRange q.place (number_at (is_little C.order) 4 q.left)) q (λ p h. (p, refl, h)) (λ p. refl) (λ p. refl) hw hn (enough 4 q)) at w
+    (StringRange q.place (number_at (is_little C.order) 4 q.left)) q (λ p h. (p, refl, h)) (λ p. refl) (λ p. refl) hw hn
+    (enough 4 q)) at w

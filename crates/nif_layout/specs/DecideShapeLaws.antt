@@ -53,9 +53,12 @@ run_inside order V n at w c (inr r) =
       passes_skip n at (take n at.left) refl r.1 r.2 c,
     )
 
-row_inside : (order : Order) (V : Kind → Node → Type 0) (F : Kind → Point → Fault → Type 0) (n : ℕ) (item : ℕ → Form) (at : Point)
-    → AllDecided (texts order) (Items (λ i. IsForm V (item i)) 0 n) (ItemsFail order (λ i. IsForm V (item i)) (λ i. FormFails order V F (item i)) 0 n) at
-    → Inside order (IsForm V (Row n item)) (ItemsFail order (λ i. IsForm V (item i)) (λ i. FormFails order V F (item i)) 0 n) at
+row_inside : (order : Order) (V : Kind → Node → Type 0) (F : Kind → Point → Fault → Type 0) (n : ℕ) (item : ℕ → Form)
+    (at : Point)
+    → AllDecided (texts order) (Items (λ i. IsForm V (item i)) 0 n)
+    (ItemsFail order (λ i. IsForm V (item i)) (λ i. FormFails order V F (item i)) 0 n) at
+    → Inside order (IsForm V (Row n item)) (ItemsFail order (λ i. IsForm V (item i))
+    (λ i. FormFails order V F (item i)) 0 n) at
 row_inside order V F n item at (inl r) = inl (node.Row r.0, r.1, nodes_in r.0, (r.0, refl, r.2), refl, r.3)
 row_inside order V F n item at (inr r) = inr r
 
@@ -64,19 +67,26 @@ pub form_decides : (order : Order) (V : Kind → Node → Type 0) (F : Kind → 
     → (form : Form) → KnownForm U form → Decides order (IsForm V form) (FormFails order V F form)
 form_decides order V F U each (One kind) u at w = each kind u at w
 form_decides order V F U each (Run n) u at w =
-    counted_decides order (IsForm V (Run n)) (λ q x. shortage n q ≡ Some x) (λ q hw hn. run_inside order V n q hw hn (enough n q)) at w
+    counted_decides order (IsForm V (Run n)) (λ q x. shortage n q ≡ Some x)
+    (λ q hw hn. run_inside order V n q hw hn (enough n q)) at w
 form_decides order V F U each (Row n item) u at w =
-    counted_decides order (IsForm V (Row n item)) (ItemsFail order (λ i. IsForm V (item i)) (λ i. FormFails order V F (item i)) 0 n)
+    counted_decides order (IsForm V (Row n item))
+    (ItemsFail order (λ i. IsForm V (item i)) (λ i. FormFails order V F (item i)) 0 n)
     (λ q hw hn. row_inside order V F n item q
-    (items_decide order (λ i. IsForm V (item i)) (λ i. FormFails order V F (item i)) (λ i. form_decides order V F U each (item i) (u i)) 0 n q hw hn)) at w
+    (items_decide order (λ i. IsForm V (item i)) (λ i. FormFails order V F (item i))
+    (λ i. form_decides order V F U each (item i) (u i)) 0 n q hw hn)) at w
 
-group_inside : (S : Schema) (C : Context) (V : Kind → Node → Type 0) (F : Kind → Point → Fault → Type 0) (fields : List Field) (template : Option ℕ) (arg : ℕ) (at : Point)
-    → AllDecided (fields_text (λ E. C.order) fields []) (Fields (present S C arg) (λ E f. IsForm V (form_of S C template arg E f)) (no_check {Why = Fault}) fields []) (GroupFails S C V F fields template arg) at
+group_inside : (S : Schema) (C : Context) (V : Kind → Node → Type 0) (F : Kind → Point → Fault → Type 0)
+    (fields : List Field) (template : Option ℕ) (arg : ℕ) (at : Point)
+    → AllDecided (fields_text (λ E. C.order) fields [])
+    (Fields (present S C arg) (λ E f. IsForm V (form_of S C template arg E f)) (no_check {Why = Fault}) fields [])
+    (GroupFails S C V F fields template arg) at
     → Inside C.order (IsGroup S C V fields template arg) (GroupFails S C V F fields template arg) at
 group_inside S C V F fields template arg at (inl r) =
     let P : List ℕ → Type 0 = λ s. Passes s (nodes_in r.0) at r.1 in
     let p : Passes (texts C.order r.0) (nodes_in r.0) at r.1 =
-    subst P (same_text C.order (present S C arg) (λ E f. IsForm V (form_of S C template arg E f)) (no_check {Why = Fault}) fields [] r.0 r.2) r.3 in
+    subst P (same_text C.order (present S C arg) (λ E f. IsForm V (form_of S C template arg E f))
+    (no_check {Why = Fault}) fields [] r.0 r.2) r.3 in
     inl (node.Group r.0, r.1, nodes_in r.0, (r.0, refl, r.2), refl, p)
 group_inside S C V F fields template arg at (inr r) = inr r
 
@@ -97,10 +107,12 @@ shape_decides S C (suc d) (Group fields template arg) u at w =
     let F = Fails S C d in
     let each : EachField (λ f. (E : Env) → Decides C.order (IsForm V (form_of S C template arg E f)) (FormFails C.order V F (form_of S C template arg E f))) fields =
     each_field (λ f. (E : Env) → KnownForm (Known S C d) (form_of S C template arg E f)) _
-    (λ f h E. form_decides C.order V F (Known S C d) (λ k uk. shape_decides S C d k uk) (form_of S C template arg E f) (h E)) fields u in
+    (λ f h E. form_decides C.order V F (Known S C d) (λ k uk. shape_decides S C d k uk) (form_of S C template arg E f)
+    (h E)) fields u in
     counted_decides C.order (IsGroup S C V fields template arg) (GroupFails S C V F fields template arg)
     (λ q hw hn. group_inside S C V F fields template arg q
-    (fields_decide (λ f. f) (λ E. C.order) (present S C arg) (λ E f. IsForm V (form_of S C template arg E f)) (λ E f. FormFails C.order V F (form_of S C template arg E f)) no_check
+    (fields_decide (λ f. f) (λ E. C.order) (present S C arg) (λ E f. IsForm V (form_of S C template arg E f))
+    (λ E f. FormFails C.order V F (form_of S C template arg E f)) no_check
     fields each [] q hw hn)) at w
 shape_decides S C d Unknown u at w = absurd u
 
@@ -109,9 +121,14 @@ pub form_shape_decides : (S : Schema) (C : Context) (d : ℕ) (form : Form) → 
 form_shape_decides S C d form known =
     form_decides C.order (Shape S C d) (Fails S C d) (Known S C d) (λ k uk. shape_decides S C d k uk) form known
 
-pub line_decides : {Why : Type 0} (S : Schema) (at : Env → Context) (d : ℕ) (template : Option ℕ) (arg : ℕ) (by_fault : Fault → Why) (check : Check Why) (fields : List Field)
+pub line_decides : {Why : Type 0} (S : Schema) (at : Env → Context) (d : ℕ) (template : Option ℕ) (arg : ℕ)
+    (by_fault : Fault → Why) (check : Check Why) (fields : List Field)
     → EachField (λ f. (E : Env) → KnownForm (Known S (at E) d) (form_of S (at E) template arg E f)) fields
-    → (E : Env) → AllDecide (fields_text (λ E. (at E).order) fields E) (LineShape S at d template arg check fields E) (LineFails S at d template arg by_fault check fields E)
+    → (E : Env) → AllDecide (fields_text (λ E. (at E).order) fields E) (LineShape S at d template arg check fields E)
+    (LineFails S at d template arg by_fault check fields E)
 line_decides S at d template arg by_fault check fields known E =
-    fields_decide by_fault (λ E. (at E).order) (λ E f. present S (at E) arg E f) (λ E f. FormShape S (at E) d (form_of S (at E) template arg E f)) (λ E f. FormShapeFails S (at E) d (form_of S (at E) template arg E f)) check
-    fields (each_field (λ f. (E : Env) → KnownForm (Known S (at E) d) (form_of S (at E) template arg E f)) _ (λ f h E. form_shape_decides S (at E) d (form_of S (at E) template arg E f) (h E)) fields known) E
+    fields_decide by_fault (λ E. (at E).order) (λ E f. present S (at E) arg E f)
+    (λ E f. FormShape S (at E) d (form_of S (at E) template arg E f))
+    (λ E f. FormShapeFails S (at E) d (form_of S (at E) template arg E f)) check
+    fields (each_field (λ f. (E : Env) → KnownForm (Known S (at E) d) (form_of S (at E) template arg E f)) _
+    (λ f h E. form_shape_decides S (at E) d (form_of S (at E) template arg E f) (h E)) fields known) E

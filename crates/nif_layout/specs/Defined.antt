@@ -29,7 +29,8 @@ expressions f = f.vercond ∷ f.cond ∷ f.arg ∷ f.length ∷ width_where f.le
 -- an expression was read, and each path in it has a value, whatever was read of the earlier fields
 abbrev pub HasValue : Schema → List Field → Formula → Type 0
 HasValue schema earlier formula = (of : Tree) × (formula ≡ Read of)
-    × ((C : Context) (E : Env) → fields_before E ≡ earlier → (path : List Name) → Contains (paths_of of) path → IsSome (path_value schema C E path))
+    × ((C : Context) (E : Env) → fields_before E ≡ earlier → (path : List Name) → Contains (paths_of of) path
+    → IsSome (path_value schema C E path))
 
 abbrev pub HasValues : Schema → List Field → Field → Type 0
 HasValues schema earlier f =

@@ -30,7 +30,8 @@ has_name name before = list_any (is_named name) before
 abbrev pub last_present : Name → Env → Option (Field × Node)
 last_present name [] = None
 last_present name (earlier ∷ before) =
-    if is_named name earlier then option_map_or (λ node. Some (earlier.field, node)) earlier.node (last_present name before)
+    if is_named name earlier then option_map_or (λ node. Some (earlier.field, node)) earlier.node
+    (last_present name before)
     else last_present name before
 
 -- the fields of a group with its members, behind those before

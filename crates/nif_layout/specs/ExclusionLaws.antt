@@ -30,9 +30,11 @@ form_excludes order V F cancels each (Run n) node at next f ha p bad =
     (λ q w. let e : shortage n (one_more at) ≡ None = rw ha.2 at (no_shortage ha.0 0 (one_more at) next q) in cc) p' bad
 form_excludes order V F cancels each (Row n item) node at next f ha p bad =
     let p' : Passes (texts order ha.0) (1 + nodes_in ha.0) at next = rw ha.1 at p in
-    counted_excludes (λ f. f) (ItemsFail order (λ i. IsForm V (item i)) (λ i. FormFails order V F (item i)) 0 n) (texts order ha.0) (nodes_in ha.0) at next f
+    counted_excludes (λ f. f) (ItemsFail order (λ i. IsForm V (item i)) (λ i. FormFails order V F (item i)) 0 n)
+    (texts order ha.0) (nodes_in ha.0) at next f
     (λ q w. items_exclude order (λ i. IsForm V (item i)) (λ i. FormFails order V F (item i))
-    (λ i. form_cancel order V V cancels (item i)) (λ i. form_excludes order V F cancels each (item i)) 0 n ha.0 (one_more at) next f ha.2 q w) p' bad
+    (λ i. form_cancel order V V cancels (item i)) (λ i. form_excludes order V F cancels each (item i)) 0 n ha.0
+    (one_more at) next f ha.2 q w) p' bad
 
 pub form_one : (order : Order) (V : Kind → Node → Type 0) (F : Kind → Point → Fault → Type 0)
     → ((k : Kind) → Cancels order (V k) (V k)) → ((k : Kind) → Excludes order (V k) (F k))
@@ -57,9 +59,12 @@ group_excludes S C V F cancels each fields template arg node at next f ha p bad 
     (λ q w.
     let P : List ℕ → Type 0 = λ s. Passes s (nodes_in ha.0) (one_more at) next in
     let q' : Passes (fields_text (λ E. C.order) fields [] ha.0) (nodes_in ha.0) (one_more at) next =
-    subst P (sym (same_text C.order (present S C arg) (λ E f. IsForm V (form_of S C template arg E f)) (no_check {Why = Fault}) fields [] ha.0 ha.2)) q in
-    fields_exclude (λ f. f) (λ E. C.order) (present S C arg) (λ E f. IsForm V (form_of S C template arg E f)) (λ E f. FormFails C.order V F (form_of S C template arg E f)) no_check
-    (λ E f. form_cancel C.order V V cancels (form_of S C template arg E f)) (λ E f. form_excludes C.order V F cancels each (form_of S C template arg E f))
+    subst P (sym (same_text C.order (present S C arg) (λ E f. IsForm V (form_of S C template arg E f))
+    (no_check {Why = Fault}) fields [] ha.0 ha.2)) q in
+    fields_exclude (λ f. f) (λ E. C.order) (present S C arg) (λ E f. IsForm V (form_of S C template arg E f))
+    (λ E f. FormFails C.order V F (form_of S C template arg E f)) no_check
+    (λ E f. form_cancel C.order V V cancels (form_of S C template arg E f))
+    (λ E f. form_excludes C.order V F cancels each (form_of S C template arg E f))
     fields [] ha.0 (one_more at) next f ha.2 q' w) p' bad
 
 pub group_one : (S : Schema) (C : Context) (V : Kind → Node → Type 0) (F : Kind → Point → Fault → Type 0)
@@ -69,8 +74,10 @@ pub group_one : (S : Schema) (C : Context) (V : Kind → Node → Type 0) (F : K
     → OneFault (Counted (λ f. f) (GroupFails S C V F fields template arg))
 group_one S C V F cancels each one fields template arg =
     counted_one (λ f. f) (GroupFails S C V F fields template arg)
-    (fields_one (λ f. f) (λ E. C.order) (present S C arg) (λ E f. IsForm V (form_of S C template arg E f)) (λ E f. FormFails C.order V F (form_of S C template arg E f)) no_check
-    (λ E f. form_cancel C.order V V cancels (form_of S C template arg E f)) (λ E f. form_excludes C.order V F cancels each (form_of S C template arg E f))
+    (fields_one (λ f. f) (λ E. C.order) (present S C arg) (λ E f. IsForm V (form_of S C template arg E f))
+    (λ E f. FormFails C.order V F (form_of S C template arg E f)) no_check
+    (λ E f. form_cancel C.order V V cancels (form_of S C template arg E f))
+    (λ E f. form_excludes C.order V F cancels each (form_of S C template arg E f))
     (λ E f. form_one C.order V F cancels each one (form_of S C template arg E f)) fields [])
 
 pub shape_excludes : (S : Schema) (C : Context) → Fits C → (d : ℕ) (kind : Kind)
@@ -83,7 +90,8 @@ shape_excludes S C fits d (Ref strong wanted) node at next f ha p bad =
 shape_excludes S C fits d Text node at next f ha p bad = leaf_excludes C fits Text node at next f ha p bad
 shape_excludes S C fits zero (Group fields template arg) node at next f ha p bad = ha
 shape_excludes S C fits (suc d) (Group fields template arg) node at next f ha p bad =
-    group_excludes S C (Shape S C d) (Fails S C d) (λ k. shape_cancel S C fits d d k) (λ k. shape_excludes S C fits d k) fields template arg node at next f ha p bad
+    group_excludes S C (Shape S C d) (Fails S C d) (λ k. shape_cancel S C fits d d k)
+    (λ k. shape_excludes S C fits d k) fields template arg node at next f ha p bad
 shape_excludes S C fits d Unknown node at next f ha p bad = ha
 
 pub shape_one : (S : Schema) (C : Context) → Fits C → (d : ℕ) (kind : Kind) → OneFault (Fails S C d kind)
@@ -93,30 +101,40 @@ shape_one S C fits d (Ref strong wanted) at f g a b = leaf_one C (Ref strong wan
 shape_one S C fits d Text at f g a b = leaf_one C Text at f g a b
 shape_one S C fits zero (Group fields template arg) at f g a b = a ∙ sym b
 shape_one S C fits (suc d) (Group fields template arg) at f g a b =
-    group_one S C (Shape S C d) (Fails S C d) (λ k. shape_cancel S C fits d d k) (λ k. shape_excludes S C fits d k) (λ k. shape_one S C fits d k) fields template arg at f g a b
+    group_one S C (Shape S C d) (Fails S C d) (λ k. shape_cancel S C fits d d k) (λ k. shape_excludes S C fits d k)
+    (λ k. shape_one S C fits d k) fields template arg at f g a b
 shape_one S C fits d Unknown at f g a b = absurd a
 
 pub form_shape_excludes : (S : Schema) (C : Context) → Fits C → (d : ℕ) (form : Form)
     → Excludes C.order (FormShape S C d form) (FormShapeFails S C d form)
-form_shape_excludes S C fits d form = form_excludes C.order (Shape S C d) (Fails S C d) (λ k. shape_cancel S C fits d d k) (λ k. shape_excludes S C fits d k) form
+form_shape_excludes S C fits d form = form_excludes C.order (Shape S C d) (Fails S C d)
+    (λ k. shape_cancel S C fits d d k) (λ k. shape_excludes S C fits d k) form
 
 pub form_shape_one : (S : Schema) (C : Context) → Fits C → (d : ℕ) (form : Form) → OneFault (FormShapeFails S C d form)
 form_shape_one S C fits d form =
-    form_one C.order (Shape S C d) (Fails S C d) (λ k. shape_cancel S C fits d d k) (λ k. shape_excludes S C fits d k) (λ k. shape_one S C fits d k) form
+    form_one C.order (Shape S C d) (Fails S C d) (λ k. shape_cancel S C fits d d k) (λ k. shape_excludes S C fits d k)
+    (λ k. shape_one S C fits d k) form
 
 pub line_excludes : {Why : Type 0} (S : Schema) (at : Env → Context) → ((E : Env) → Fits (at E))
     → (d : ℕ) (template : Option ℕ) (arg : ℕ) (by_fault : Fault → Why) (check : Check Why) (fields : List Field)
     (E : Env)
-    → AllExclude (fields_text (λ E. (at E).order) fields E) (LineShape S at d template arg check fields E) (LineFails S at d template arg by_fault check fields E)
+    → AllExclude (fields_text (λ E. (at E).order) fields E) (LineShape S at d template arg check fields E)
+    (LineFails S at d template arg by_fault check fields E)
 line_excludes S at fits d template arg by_fault check fields E =
-    fields_exclude by_fault (λ E. (at E).order) (λ E f. present S (at E) arg E f) (λ E f. FormShape S (at E) d (form_of S (at E) template arg E f)) (λ E f. FormShapeFails S (at E) d (form_of S (at E) template arg E f)) check
-    (λ E f. form_shape_cancel S (at E) (fits E) d d (form_of S (at E) template arg E f)) (λ E f. form_shape_excludes S (at E) (fits E) d (form_of S (at E) template arg E f)) fields E
+    fields_exclude by_fault (λ E. (at E).order) (λ E f. present S (at E) arg E f)
+    (λ E f. FormShape S (at E) d (form_of S (at E) template arg E f))
+    (λ E f. FormShapeFails S (at E) d (form_of S (at E) template arg E f)) check
+    (λ E f. form_shape_cancel S (at E) (fits E) d d (form_of S (at E) template arg E f))
+    (λ E f. form_shape_excludes S (at E) (fits E) d (form_of S (at E) template arg E f)) fields E
 
 pub line_one : {Why : Type 0} (S : Schema) (at : Env → Context) → ((E : Env) → Fits (at E))
     → (d : ℕ) (template : Option ℕ) (arg : ℕ) (by_fault : Fault → Why) (check : Check Why) (fields : List Field)
     (E : Env)
     → OneFault (LineFails S at d template arg by_fault check fields E)
 line_one S at fits d template arg by_fault check fields E =
-    fields_one by_fault (λ E. (at E).order) (λ E f. present S (at E) arg E f) (λ E f. FormShape S (at E) d (form_of S (at E) template arg E f)) (λ E f. FormShapeFails S (at E) d (form_of S (at E) template arg E f)) check
-    (λ E f. form_shape_cancel S (at E) (fits E) d d (form_of S (at E) template arg E f)) (λ E f. form_shape_excludes S (at E) (fits E) d (form_of S (at E) template arg E f))
+    fields_one by_fault (λ E. (at E).order) (λ E f. present S (at E) arg E f)
+    (λ E f. FormShape S (at E) d (form_of S (at E) template arg E f))
+    (λ E f. FormShapeFails S (at E) d (form_of S (at E) template arg E f)) check
+    (λ E f. form_shape_cancel S (at E) (fits E) d d (form_of S (at E) template arg E f))
+    (λ E f. form_shape_excludes S (at E) (fits E) d (form_of S (at E) template arg E f))
     (λ E f. form_shape_one S (at E) (fits E) d (form_of S (at E) template arg E f)) fields E

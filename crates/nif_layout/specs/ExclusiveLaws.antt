@@ -31,12 +31,15 @@ OneFault {Why} F = (at : Point) (v w : Why) → F at v → F at w → v ≡ w
 pub counted_one : {Why : Type 0} (by_fault : Fault → Why) (F : Point → Why → Type 0) → OneFault F
     → OneFault (Counted by_fault F)
 counted_one by_fault F one at v w (inl a) (inl b) = a.1 ∙ sym b.1
-counted_one by_fault F one at v w (inl a) (inr b) = let x : most_nodes ≤ at.nodes = a.0 in let y : at.nodes < most_nodes = b.0 in absurd (omega arith)
-counted_one by_fault F one at v w (inr a) (inl b) = let x : at.nodes < most_nodes = a.0 in let y : most_nodes ≤ at.nodes = b.0 in absurd (omega arith)
+counted_one by_fault F one at v w (inl a) (inr b) = let x : most_nodes ≤ at.nodes = a.0 in let y : at.nodes
+    < most_nodes = b.0 in absurd (omega arith)
+counted_one by_fault F one at v w (inr a) (inl b) = let x : at.nodes < most_nodes = a.0 in let y : most_nodes
+    ≤ at.nodes = b.0 in absurd (omega arith)
 counted_one by_fault F one at v w (inr a) (inr b) = one (one_more at) v w a.1 b.1
 
 -- A node is counted, and what is read behind it doesn't fail.
-pub counted_excludes : {Why : Type 0} (by_fault : Fault → Why) (F : Point → Why → Type 0) (s : List ℕ) (n : ℕ) (at next : Point) (w : Why)
+pub counted_excludes : {Why : Type 0} (by_fault : Fault → Why) (F : Point → Why → Type 0) (s : List ℕ) (n : ℕ)
+    (at next : Point) (w : Why)
     → (Passes s n (one_more at) next → F (one_more at) w → ⊥) → Passes s (1 + n) at next → Counted by_fault F at w → ⊥
 counted_excludes by_fault F s n at next w inner p (inl a) =
     let x : most_nodes ≤ at.nodes = a.0 in let y : at.nodes < most_nodes = (count_in s n at next p).0 in omega arith
@@ -52,7 +55,8 @@ same_end order V cancels a b at p q ha hb hp hq =
     let hq' : Reads order a at q = subst P same hq in
     (r.0, one_point (text order a) (nodes a) at p q hp hq')
 
-pub member_excludes : {Why : Type 0} (by_fault : Fault → Why) (order : Order) (T : Option Node → Members → List ℕ) (here : Bool) (V : Node → Type 0) (F : Point → Fault → Type 0)
+pub member_excludes : {Why : Type 0} (by_fault : Fault → Why) (order : Order) (T : Option Node → Members → List ℕ)
+    (here : Bool) (V : Node → Type 0) (F : Point → Fault → Type 0)
     (R : Option Node → Members → Type 0) (Q : Option Node → Point → Why → Type 0)
     → Cancels order V V → Excludes order V F → ((got : Option Node) → AllExclude (T got) (R got) (Q got))
     → AllExclude (member_text order T) (Member here V R) (MemberFails by_fault order here V F Q)
@@ -69,9 +73,11 @@ member_excludes by_fault order T true V F R Q cancels first rest a at next w ha 
     rest (Some ha.0) ha.1 s.0 next w ha.4 s.2 bad'
 member_excludes by_fault order T false V F R Q cancels first rest a at next w ha p bad =
     let p' : Passes (T None ha.0) (1 + nodes_in ha.0) at next = rw ha.1 at p in
-    counted_excludes by_fault (Q None) (T None ha.0) (nodes_in ha.0) at next w (λ q x. rest None ha.0 (one_more at) next w ha.2 q x) p' bad
+    counted_excludes by_fault (Q None) (T None ha.0) (nodes_in ha.0) at next w
+    (λ q x. rest None ha.0 (one_more at) next w ha.2 q x) p' bad
 
-pub member_one : {Why : Type 0} (by_fault : Fault → Why) (order : Order) (here : Bool) (V : Node → Type 0) (F : Point → Fault → Type 0) (Q : Option Node → Point → Why → Type 0)
+pub member_one : {Why : Type 0} (by_fault : Fault → Why) (order : Order) (here : Bool) (V : Node → Type 0)
+    (F : Point → Fault → Type 0) (Q : Option Node → Point → Why → Type 0)
     → Cancels order V V → Excludes order V F → OneFault F → ((got : Option Node) → OneFault (Q got))
     → OneFault (MemberFails by_fault order here V F Q)
 member_one {Why} by_fault order true V F Q cancels excludes one rest at v w (inl a) (inl b) =
@@ -100,7 +106,8 @@ none_some o a n s = cc
 some_same : {A : Type 0} (o : Option A) (a b : A) → o ≡ Some a → o ≡ Some b → a ≡ b
 some_same o a b p q = let e : Some a ≡ Some b = sym p ∙ q in cc
 
-pub refused_excludes : {Why : Type 0} (refused : Option Why) (T : Members → List ℕ) (V : Members → Type 0) (F : Point → Why → Type 0)
+pub refused_excludes : {Why : Type 0} (refused : Option Why) (T : Members → List ℕ) (V : Members → Type 0)
+    (F : Point → Why → Type 0)
     → AllExclude T V F → AllExclude T (λ a. (refused ≡ None) × V a) (RefusedOr refused F)
 refused_excludes refused T V F h a at next w ha p (inl bad) = none_some refused w ha.0 bad
 refused_excludes refused T V F h a at next w ha p (inr bad) = h a at next w ha.1 p bad.1
@@ -112,17 +119,22 @@ refused_one refused F one at v w (inl a) (inr b) = absurd (none_some refused v b
 refused_one refused F one at v w (inr a) (inl b) = absurd (none_some refused w a.0 b)
 refused_one refused F one at v w (inr a) (inr b) = one at v w a.1 b.1
 
-pub fields_exclude : {Why : Type 0} (by_fault : Fault → Why) (order : Env → Order) (here : Env → Field → Bool) (V : Env → Field → Node → Type 0) (F : Env → Field → Point → Fault → Type 0) (check : Check Why)
+pub fields_exclude : {Why : Type 0} (by_fault : Fault → Why) (order : Env → Order) (here : Env → Field → Bool)
+    (V : Env → Field → Node → Type 0) (F : Env → Field → Point → Fault → Type 0) (check : Check Why)
     → ((E : Env) (f : Field) → Cancels (order E) (V E f) (V E f))
     → ((E : Env) (f : Field) → Excludes (order E) (V E f) (F E f))
-    → (fields : List Field) (E : Env) → AllExclude (fields_text order fields E) (Fields here V check fields E) (FieldsFail by_fault order here V F check fields E)
+    → (fields : List Field) (E : Env) → AllExclude (fields_text order fields E) (Fields here V check fields E)
+    (FieldsFail by_fault order here V F check fields E)
 fields_exclude by_fault order here V F check cancels each [] E a at next w ha p bad = bad
 fields_exclude by_fault order here V F check cancels each (f ∷ fields) E a at next w ha p bad =
-    member_excludes by_fault (order E) (λ got. fields_text order fields (behind f got E)) (here E f) (V E f) (F E f) _ _ (cancels E f) (each E f)
-    (λ got. refused_excludes (check E f got) (fields_text order fields (behind f got E)) (Fields here V check fields (behind f got E)) (FieldsFail by_fault order here V F check fields (behind f got E))
+    member_excludes by_fault (order E) (λ got. fields_text order fields (behind f got E)) (here E f) (V E f) (F E f) _ _
+    (cancels E f) (each E f)
+    (λ got. refused_excludes (check E f got) (fields_text order fields (behind f got E))
+    (Fields here V check fields (behind f got E)) (FieldsFail by_fault order here V F check fields (behind f got E))
     (fields_exclude by_fault order here V F check cancels each fields (behind f got E))) a at next w ha p bad
 
-pub fields_one : {Why : Type 0} (by_fault : Fault → Why) (order : Env → Order) (here : Env → Field → Bool) (V : Env → Field → Node → Type 0) (F : Env → Field → Point → Fault → Type 0) (check : Check Why)
+pub fields_one : {Why : Type 0} (by_fault : Fault → Why) (order : Env → Order) (here : Env → Field → Bool)
+    (V : Env → Field → Node → Type 0) (F : Env → Field → Point → Fault → Type 0) (check : Check Why)
     → ((E : Env) (f : Field) → Cancels (order E) (V E f) (V E f))
     → ((E : Env) (f : Field) → Excludes (order E) (V E f) (F E f))
     → ((E : Env) (f : Field) → OneFault (F E f))
@@ -139,7 +151,8 @@ pub items_exclude : (order : Order) (V : ℕ → Node → Type 0) (F : ℕ → P
 items_exclude order V F cancels each i zero a at next f ha p bad = bad
 items_exclude order V F cancels each i (suc n) a at next f ha p bad =
     one_order_excludes order (Items V i (suc n)) (ItemsFail order V F i (suc n))
-    (member_excludes (λ f. f) order (λ got. texts order) true (V i) (F i) (λ got. Items V (i + 1) n) (λ got. ItemsFail order V F (i + 1) n) (cancels i) (each i)
+    (member_excludes (λ f. f) order (λ got. texts order) true (V i) (F i) (λ got. Items V (i + 1) n)
+    (λ got. ItemsFail order V F (i + 1) n) (cancels i) (each i)
     (λ got. items_exclude order V F cancels each (i + 1) n)) a at next f ha p bad
 
 pub items_one : (order : Order) (V : ℕ → Node → Type 0) (F : ℕ → Point → Fault → Type 0)

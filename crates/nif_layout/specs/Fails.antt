@@ -42,7 +42,8 @@ abbrev pub FieldsFail : {Why : Type 0} → (Fault → Why) → (Env → Order) �
 FieldsFail by_fault order here Value Fails check [] E at why = ⊥
 FieldsFail by_fault order here Value Fails check (f ∷ fields) E at why =
     MemberFails by_fault (order E) (here E f) (Value E f) (Fails E f)
-    (λ got next w. (check E f got ≡ Some w) ⊎ ((check E f got ≡ None) × FieldsFail by_fault order here Value Fails check fields (behind f got E) next w)) at why
+    (λ got next w. (check E f got ≡ Some w) ⊎ ((check E f got ≡ None)
+    × FieldsFail by_fault order here Value Fails check fields (behind f got E) next w)) at why
 
 -- The first of n items are read, and the next one fails.
 abbrev pub ItemsFail : Order → (ℕ → Node → Type 0) → (ℕ → Point → Fault → Type 0) → ℕ → ℕ → Point → Fault → Type 0
@@ -55,7 +56,8 @@ abbrev pub FormFails : Order → (Kind → Node → Type 0) → (Kind → Point 
 FormFails order Single Fails (One kind) at fault = Fails kind at fault
 FormFails order Single Fails (Run n) at fault = Counted (λ f. f) (λ next f. shortage n next ≡ Some f) at fault
 FormFails order Single Fails (Row n item) at fault =
-    Counted (λ f. f) (ItemsFail order (λ i. IsForm Single (item i)) (λ i. FormFails order Single Fails (item i)) 0 n) at fault
+    Counted (λ f. f) (ItemsFail order (λ i. IsForm Single (item i))
+    (λ i. FormFails order Single Fails (item i)) 0 n) at fault
 
 abbrev pub LeafFails : Context → Kind → Point → Fault → Type 0
 LeafFails C kind at fault = Counted (λ f. f) (λ next f. leaf_fault C kind next ≡ Some f) at fault
@@ -85,5 +87,6 @@ FormShapeFails schema C d form at fault = FormFails C.order (Shape schema C d) (
 abbrev pub LineFails : {Why : Type 0} → Schema → (Env → Context) → ℕ → Option ℕ → ℕ → (Fault → Why) → Check Why
     → List Field → Env → Point → Why → Type 0
 LineFails schema at d template arg by_fault check fields E point why =
-    FieldsFail by_fault (λ E. (at E).order) (λ E f. present schema (at E) arg E f) (λ E f. FormShape schema (at E) d (form_of schema (at E) template arg E f))
+    FieldsFail by_fault (λ E. (at E).order) (λ E f. present schema (at E) arg E f)
+    (λ E f. FormShape schema (at E) d (form_of schema (at E) template arg E f))
     (λ E f. FormShapeFails schema (at E) d (form_of schema (at E) template arg E f)) check fields E point why

@@ -82,7 +82,8 @@ sized (Some n) (Some width) run kind = Row n (λ i. row_of run kind (width i))
 -- what one value of a field is
 abbrev pub field_kind : Schema → Context → Option ℕ → ℕ → Env → Field → Kind
 field_kind schema C template arg E f =
-    option_map_or (λ number. kind_of schema C number (option_and_then (replaced schema template) f.template) (option_map_or (formula_value schema C E arg) f.arg 0))
+    option_map_or (λ number. kind_of schema C number (option_and_then (replaced schema template) f.template)
+    (option_map_or (formula_value schema C E arg) f.arg 0))
     (replaced schema template f.kind) Unknown
 
 -- what the value of a field is, behind these earlier fields, in a group under this template and with this argument

@@ -99,12 +99,14 @@ SpelledOrFails schema C number template arg = (d n p : ℕ) (bytes : List ℕ) �
 -- The same of the value of a field.
 abbrev pub FormSpelledOrFails : Schema → Context → Form → Type 0
 FormSpelledOrFails schema C form = (d n p : ℕ) (bytes : List ℕ) → IsPlace bytes p
-    → ExactlyOne (NodeStands C (FormShape schema C d form) bytes p n) (FormShapeFails schema C d form (at_place n bytes p))
+    → ExactlyOne (NodeStands C (FormShape schema C d form) bytes p n)
+    (FormShapeFails schema C d form (at_place n bytes p))
 
 -- The same of the members of a line, where there aren't too many nodes before them.
 abbrev pub LineSpelledOrFails : {Why : Type 0} → Schema → (Env → Context) → Option ℕ → ℕ → (Fault → Why) → Check Why
     → List Field → Type 0
 LineSpelledOrFails schema at template arg by_fault check fields =
     (d n p : ℕ) (bytes : List ℕ) → IsPlace bytes p → n ≤ most_nodes
-    → ExactlyOne ((members : Members) × LineShape schema at d template arg check fields [] members × Stands bytes p n (line_text at fields [] members) (nodes_in members))
+    → ExactlyOne ((members : Members) × LineShape schema at d template arg check fields [] members
+    × Stands bytes p n (line_text at fields [] members) (nodes_in members))
     (LineFails schema at d template arg by_fault check fields [] (at_place n bytes p))

@@ -76,12 +76,14 @@ leaf_excludes C fits (Ref strong wanted) node at next f ha p bad =
     let s = number (is_little C.order) 4 (place_or_none ha.0) in
     let p' : Passes s 1 at next = rw ha.1 at p in
     counted_excludes (λ f. f) (λ q w. leaf_fault C (Ref strong wanted) q ≡ Some w) s 0 at next f
-    (λ q w. let e = place_no_fault (is_little C.order) C.blocks ha.0 (one_more at) next 0 (RefRange at.place (number_at (is_little C.order) 4 at.left)) fits.blocks ha.2 q in cc) p' bad
+    (λ q w. let e = place_no_fault (is_little C.order) C.blocks ha.0 (one_more at) next 0
+    (RefRange at.place (number_at (is_little C.order) 4 at.left)) fits.blocks ha.2 q in cc) p' bad
 leaf_excludes C fits Text node at next f ha p bad =
     let s = number (is_little C.order) 4 (place_or_none ha.0) in
     let p' : Passes s 1 at next = rw ha.1 at p in
     counted_excludes (λ f. f) (λ q w. leaf_fault C Text q ≡ Some w) s 0 at next f
-    (λ q w. let e = place_no_fault (is_little C.order) C.strings ha.0 (one_more at) next 0 (StringRange at.place (number_at (is_little C.order) 4 at.left)) fits.strings ha.2 q in cc) p' bad
+    (λ q w. let e = place_no_fault (is_little C.order) C.strings ha.0 (one_more at) next 0
+    (StringRange at.place (number_at (is_little C.order) 4 at.left)) fits.strings ha.2 q in cc) p' bad
 leaf_excludes C fits (Group fields template arg) node at next f ha p bad = absurd ha
 leaf_excludes C fits Unknown node at next f ha p bad = absurd ha
 

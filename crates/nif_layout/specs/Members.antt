@@ -24,7 +24,8 @@ abbrev pub Fields : {Why : Type 0} → (Env → Field → Bool) → (Env → Fie
     → Env → Members → Type 0
 Fields here Value check [] E members = members ≡ End
 Fields here Value check (f ∷ fields) E members =
-    Member (here E f) (Value E f) (λ got rest. (check E f got ≡ None) × Fields here Value check fields (behind f got E) rest) members
+    Member (here E f) (Value E f) (λ got rest. (check E f got ≡ None)
+    × Fields here Value check fields (behind f got E) rest) members
 
 -- exactly n items from place i on, each as `Value` says of its place
 abbrev pub Items : (ℕ → Node → Type 0) → ℕ → ℕ → Members → Type 0

@@ -32,7 +32,8 @@ unfolding parent
 parent_is_block S n p d e h = by d.what refl
   where
     at : option_and_then (find_block S) (inherited d.what) ≡ Some p
-    at = let P : Option Declaration → Type 0 = λ x. option_and_then (find_block S) (option_and_then (λ (d : Declaration). inherited d.what) x) ≡ Some p in subst P e h
+    at = let P : Option Declaration → Type 0 = λ x. option_and_then (find_block S)
+        (option_and_then (λ (d : Declaration). inherited d.what) x) ≡ Some p in subst P e h
 
     block : (w : What) → is_block w ≡ true → is_struct w ≡ false
     block (Basic own) b = refl
@@ -57,10 +58,14 @@ parent_is_block S n p d e h = by d.what refl
 
     by : (w : What) → d.what ≡ w
         → (is_struct d.what ≡ false) × ((up : Declaration) × (slice_get S p ≡ Some up) × (is_struct up.what ≡ false))
-    by (Basic own) ew = let q : option_and_then (find_block S) (inherited (Basic own)) ≡ Some p = subst (λ (w : What). option_and_then (find_block S) (inherited w) ≡ Some p) ew at in absurd (cc)
-    by (Stored storage members) ew = let q : option_and_then (find_block S) (inherited (Stored storage members)) ≡ Some p = subst (λ (w : What). option_and_then (find_block S) (inherited w) ≡ Some p) ew at in absurd (cc)
-    by Struct ew = let q : option_and_then (find_block S) (inherited Struct) ≡ Some p = subst (λ (w : What). option_and_then (find_block S) (inherited w) ≡ Some p) ew at in absurd (cc)
-    by (Block None abstract) ew = let q : option_and_then (find_block S) (inherited (Block None abstract)) ≡ Some p = subst (λ (w : What). option_and_then (find_block S) (inherited w) ≡ Some p) ew at in absurd (cc)
+    by (Basic own) ew = let q : option_and_then (find_block S) (inherited (Basic own))
+        ≡ Some p = subst (λ (w : What). option_and_then (find_block S) (inherited w) ≡ Some p) ew at in absurd (cc)
+    by (Stored storage members) ew = let q : option_and_then (find_block S) (inherited (Stored storage members))
+        ≡ Some p = subst (λ (w : What). option_and_then (find_block S) (inherited w) ≡ Some p) ew at in absurd (cc)
+    by Struct ew = let q : option_and_then (find_block S) (inherited Struct)
+        ≡ Some p = subst (λ (w : What). option_and_then (find_block S) (inherited w) ≡ Some p) ew at in absurd (cc)
+    by (Block None abstract) ew = let q : option_and_then (find_block S) (inherited (Block None abstract))
+        ≡ Some p = subst (λ (w : What). option_and_then (find_block S) (inherited w) ≡ Some p) ew at in absurd (cc)
     by (Block (Some name) abstract) ew =
         let q : option_and_then (find_block S) (inherited (Block (Some name) abstract)) ≡ Some p = subst (λ (w : What). option_and_then (find_block S) (inherited w) ≡ Some p) ew at in
         (subst (λ (w : What). is_struct w ≡ false) (sym ew) refl, there (slice_get S p) refl (named (find S name) q))
@@ -96,11 +101,13 @@ line_good S (suc most) n d e o = by (parent S n) refl (λ p up ep op. line_good 
     own =
         let at : fields_of S n ≡ d.fields = ap (λ (x : Option Declaration). option_map_or (λ d. d.fields) x []) e in
         let P : List Field → Type 0 = λ fs. EachField (L (is_struct d.what)) fs in
-        subst P (sym at) (each_both (FieldGood S (is_struct d.what)) (λ f. is_struct d.what ≡ true → takes_template f ≡ true → is_generic S n ≡ true) d.fields
+        subst P (sym at) (each_both (FieldGood S (is_struct d.what))
+        (λ f. is_struct d.what ≡ true → takes_template f ≡ true → is_generic S n ≡ true) d.fields
         (fields_good S n d e o) (generic_by_field S n d e))
 
     by : (x : Option ℕ) → parent S n ≡ x
-        → ((p : ℕ) (up : Declaration) → slice_get S p ≡ Some up → IsOpen S p → EachField (LineGood S p (is_struct up.what)) (line_within most S p))
+        → ((p : ℕ) (up : Declaration) → slice_get S p ≡ Some up → IsOpen S p
+        → EachField (LineGood S p (is_struct up.what)) (line_within most S p))
         → EachField (L (is_struct d.what)) (option_map_or (line_within most S) (parent S n) [] ++ fields_of S n)
     by None ex ih =
         let P : Option ℕ → Type 0 = λ x. EachField (L (is_struct d.what)) (option_map_or (line_within most S) x [] ++ fields_of S n) in
@@ -152,16 +159,19 @@ field_known S C d in_struct template arg E f ih good hole = by good
     inner = option_and_then (replaced S template) f.template
 
     P : Option ℕ → Type 0
-    P x = Known S C d (option_map_or (λ number. kind_of S C number inner (option_map_or (formula_value S C E arg) f.arg 0)) x Unknown)
+    P x = Known S C d (option_map_or (λ number. kind_of S C number inner
+        (option_map_or (formula_value S C E arg) f.arg 0)) x Unknown)
 
     by : FieldGood S in_struct f → Known S C d (field_kind S C template arg E f)
     by (inl a) =
         let x = hole a.0 (or_left (is_own_template f.kind) (option_map_or is_own_template f.template false) a.1) in
         let e : replaced S template f.kind ≡ Some x.0 = replaced_own S template f.kind true a.1 ∙ x.1 in
-        subst P (sym e) (ih x.0 inner (option_map_or (formula_value S C E arg) f.arg 0) x.2 (λ g. absurd (true≢false (sym g ∙ x.3))))
+        subst P (sym e) (ih x.0 inner (option_map_or (formula_value S C E arg) f.arg 0) x.2
+        (λ g. absurd (true≢false (sym g ∙ x.3))))
     by (inr a) =
         let e : replaced S template f.kind ≡ Some a.0 = replaced_own S template f.kind false a.1 ∙ a.2 in
-        subst P (sym e) (ih a.0 inner (option_map_or (formula_value S C E arg) f.arg 0) a.3 (λ g. template_known S in_struct template f.template (a.4 g)
+        subst P (sym e) (ih a.0 inner (option_map_or (formula_value S C E arg) f.arg 0) a.3
+        (λ g. template_known S in_struct template f.template (a.4 g)
         (λ s t. hole s (or_right (is_own_template f.kind) (option_map_or is_own_template f.template false) t))))
 
 form_known : (S : Schema) (C : Context) (d : ℕ) (count : Option ℕ) (width : Option (ℕ → ℕ)) (run : Bool) (kind : Kind)
@@ -184,7 +194,8 @@ pub line_known : (S : Schema) (at : Env → Context) (d n : ℕ) (template : Opt
     → EachField (λ f. (E : Env) → KnownForm (Known S (at E) d) (form_of S (at E) template arg E f)) (line S n)
 line_known S at d n template arg ih o t =
     let x = declared S n o.0 in
-    each_map (λ f h E. form_known S (at E) d (option_map (formula_value S (at E) E arg) f.length) (option_map (width_at S (at E) E arg) f.width)
+    each_map (λ f h E. form_known S (at E) d (option_map (formula_value S (at E) E arg) f.length)
+    (option_map (width_at S (at E) E arg) f.width)
     (option_map_or (is_run S) (replaced S template f.kind) false) (field_kind S (at E) template arg E f)
     (field_known S (at E) d (is_struct x.0.what) template arg E f (ih E) h.0 (λ s g. t (h.1 s g))))
     (line S n) (line_good S (length S) n x.0 x.1 o.1)
@@ -194,7 +205,8 @@ block_known : (S : Schema) (at : Env → Context) (d n : ℕ) (x : Declaration) 
     → is_struct x.what ≡ false → ((E : Env) → Knowns S (at E) d) → IsOpen S n
     → EachField (λ f. (E : Env) → KnownForm (Known S (at E) d) (form_of S (at E) None 0 E f)) (line S n)
 block_known S at d n x e s ih o =
-    each_map (λ f h E. form_known S (at E) d (option_map (formula_value S (at E) E 0) f.length) (option_map (width_at S (at E) E 0) f.width)
+    each_map (λ f h E. form_known S (at E) d (option_map (formula_value S (at E) E 0) f.length)
+    (option_map (width_at S (at E) E 0) f.width)
     (option_map_or (is_run S) (replaced S None f.kind) false) (field_kind S (at E) None 0 E f)
     (field_known S (at E) d (is_struct x.what) None 0 E f (ih E) h.0 (λ b g. absurd (true≢false (sym b ∙ s)))))
     (line S n) (line_good S (length S) n x e o)
@@ -227,7 +239,8 @@ integer_known S C d (Some Struct) h = absurd (true≢false h)
 integer_known S C d (Some (Block above abstract)) h = absurd (true≢false h)
 
 stored_known : (S : Schema) (C : Context) (d : ℕ) (storage : Option Name) → is_none (storage_width S storage) ≡ false
-    → Known S C d (kind_of_leaf C None (option_map_or basic_leaf (option_and_then (what_at S) (option_and_then (find S) storage)) leaf.Unread))
+    → Known S C d (kind_of_leaf C None (option_map_or basic_leaf
+    (option_and_then (what_at S) (option_and_then (find S) storage)) leaf.Unread))
 unfolding storage_width
 stored_known S C d storage h = integer_known S C d (option_and_then (what_at S) (option_and_then (find S) storage)) h
 
@@ -258,7 +271,8 @@ open_known S C zero n template arg o t =
 open_known S C (suc d) n template arg o t =
     let x = declared S n o.0 in
     let ih : (E : Env) → Knowns S C d = λ E. open_known S C d in
-    type_known S C (suc d) n template arg x.0 x.1 o.1 (λ s. line_known S (λ E. C) d n template arg ih o t) (λ s. block_known S (λ E. C) d n x.0 x.1 s ih o.1)
+    type_known S C (suc d) n template arg x.0 x.1 o.1 (λ s. line_known S (λ E. C) d n template arg ih o t)
+    (λ s. block_known S (λ E. C) d n x.0 x.1 s ih o.1)
 
 -- the members of the line of an open type
 pub open_line_known : (S : Schema) (at : Env → Context) (d n : ℕ) (template : Option ℕ) (arg : ℕ) → IsOpenType S n

@@ -36,7 +36,8 @@ each_used : (S : Schema) (fields : List Field)
 each_used S [] = tt
 each_used S (f ∷ fields) = (
   λ m c. Contains-append_left (uses_of_field S f) (flat_map (uses_of_field S) fields) m c,
-  each_map (λ g h m c. Contains-append_right (uses_of_field S f) (flat_map (uses_of_field S) fields) m (h m c)) fields (each_used S fields),
+  each_map (λ g h m c. Contains-append_right (uses_of_field S f) (flat_map (uses_of_field S) fields) m (h m c)) fields
+      (each_used S fields),
 )
 
 pub or_right : (a b : Bool) → b ≡ true → (a || b) ≡ true
@@ -51,8 +52,11 @@ or_left false b e = absurd (true≢false (sym e))
 pub each_any : (test : Field → Bool) (fields : List Field)
     → EachField (λ f. test f ≡ true → list_any test fields ≡ true) fields
 each_any test [] = tt
-each_any test (f ∷ fields) =
-    (λ e. or_left (test f) (list_any test fields) e, each_map (λ g h e. or_right (test f) (list_any test fields) (h e)) fields (each_any test fields))
+each_any test (f ∷ fields) = (
+  λ e. or_left (test f) (list_any test fields) e,
+  each_map
+      (λ g h e. or_right (test f) (list_any test fields) (h e)) fields (each_any test fields),
+)
 
 -- ---- reasons
 
@@ -149,7 +153,8 @@ TemplateGood S in_struct (Some name) =
 abbrev pub FieldGood : Schema → Bool → Field → Type 0
 FieldGood S in_struct f =
     ((in_struct ≡ true) × (is_own_template f.kind ≡ true))
-    ⊎ ((n : ℕ) × (is_own_template f.kind ≡ false) × (find S f.kind ≡ Some n) × IsOpenType S n × (is_generic S n ≡ true → TemplateGood S in_struct f.template))
+    ⊎ ((n : ℕ) × (is_own_template f.kind ≡ false) × (find S f.kind ≡ Some n) × IsOpenType S n
+    × (is_generic S n ≡ true → TemplateGood S in_struct f.template))
 
 -- The facts of one declaration, from its own reason.
 pub record OwnFacts (S : Schema) (n : ℕ) (d : Declaration) : Type 0 where
@@ -171,8 +176,10 @@ own_facts S n d e o =
     let P : Option Declaration → Type 0 = λ x. option_and_then (λ d. first_reason (reasons d)) x ≡ None in
     let none : first_reason (reasons d) ≡ None = subst P e o in
     record {
-      rooted = no_reason closed.C3 (has_no_root S n) (no_reason_at (reasons d) 1 (reason_where closed.C3 (has_no_root S n)) none refl);
-      readable = no_reason closed.C10 (is_unread S d.what) (no_reason_at (reasons d) 3 (reason_where closed.C10 (is_unread S d.what)) none refl);
+      rooted = no_reason closed.C3 (has_no_root S n)
+          (no_reason_at (reasons d) 1 (reason_where closed.C3 (has_no_root S n)) none refl);
+      readable = no_reason closed.C10 (is_unread S d.what)
+          (no_reason_at (reasons d) 3 (reason_where closed.C10 (is_unread S d.what)) none refl);
       fields = no_reason_at (reasons d) 5 (fields_reason S (is_struct d.what) (line_above S n) d.fields) none refl;
     }
 
@@ -203,7 +210,8 @@ open_used S n m o c to walk = o to (Further n m to c walk)
 
 open_by_name : (S : Schema) (n m : ℕ) (name : Name) → IsOpen S n → named S name ≡ Some m → Contains (uses S n) m
     → (is_own_template name ≡ false) × (find S name ≡ Some m) × IsOpenType S m
-open_by_name S n m name o e c = let r = named_found S name m e in (r.0, r.1, (find_within S name m r.1, open_used S n m o c))
+open_by_name S n m name o e c = let r = named_found S name m e in
+    (r.0, r.1, (find_within S name m r.1, open_used S n m o c))
 
 -- the template of a field whose type is generic
 template_good : (S : Schema) (in_struct : Bool) (n : ℕ) (f : Field) (kind : ℕ) → IsOpen S n
@@ -216,7 +224,8 @@ template_good S in_struct n f kind o e g reason used = by f.template refl needed
     needed =
         let P : Option ℕ → Type 0 = λ x. option_map_or (λ number.
         if is_generic S number then generic_template_reason S in_struct f.template
-        else if option_map_or is_reference (what_at S number) false then reference_template_reason S in_struct f.template
+        else if option_map_or is_reference (what_at S number) false
+        then reference_template_reason S in_struct f.template
         else None) x None ≡ None in
         let at : P (Some kind) = subst P e reason in
         let Q : Bool → Type 0 = λ b. (if b then generic_template_reason S in_struct f.template
@@ -246,7 +255,8 @@ template_good S in_struct n f kind o e g reason used = by f.template refl needed
 field_good : (S : Schema) (in_struct : Bool) (n : ℕ) (f : Field) → IsOpen S n → FieldFacts S in_struct f
     → ((m : ℕ) → Contains (uses_of_field S f) m → Contains (uses S n) m) → FieldGood S in_struct f
 field_good S in_struct n f o facts used =
-    by (type_named S in_struct (λ number. not (has_block S number)) f.kind (not_false _ (no_reason closed.C1 _ facts.kind)))
+    by (type_named S in_struct (λ number. not (has_block S number)) f.kind
+    (not_false _ (no_reason closed.C1 _ facts.kind)))
   where
     by : ((in_struct ≡ true) × (is_own_template f.kind ≡ true)) ⊎
         ((m : ℕ) × (named S f.kind ≡ Some m) × (not (has_block S m) ≡ true))
@@ -276,5 +286,7 @@ fields_good S n d e o =
     let F : Field → Type 0 = λ f. (m : ℕ) → Contains (uses_of_field S f) m → Contains (uses S n) m in
     let used : EachField F d.fields = each_map (λ f h m c.
     let P : List Field → Type 0 = λ fs. Contains (flat_map (uses_of_field S) fs) m in
-    Contains-append_right (option_to_list (parent S n)) (flat_map (uses_of_field S) (fields_of S n)) m (subst P (sym at) (h m c))) d.fields (each_used S d.fields) in
-    each_map (λ f h. field_good S (is_struct d.what) n f o h.0 h.1) d.fields (each_both (FieldFacts S (is_struct d.what)) F d.fields known used)
+    Contains-append_right (option_to_list (parent S n)) (flat_map (uses_of_field S) (fields_of S n)) m
+    (subst P (sym at) (h m c))) d.fields (each_used S d.fields) in
+    each_map (λ f h. field_good S (is_struct d.what) n f o h.0 h.1) d.fields
+    (each_both (FieldFacts S (is_struct d.what)) F d.fields known used)

@@ -15,7 +15,14 @@ split s t m n at next p =
     let w : next.place ≤ most_file_bytes = p.within in
     let c : next.nodes ≤ most_nodes = p.counted in (
       mid,
-      record { here = p.here ∙ append_assoc s t next.left; place = refl; nodes = refl; within = omega arith; counted = omega arith },
+      record {
+        here = p.here
+            ∙ append_assoc s t next.left;
+        place = refl;
+        nodes = refl;
+        within = omega arith;
+        counted = omega arith;
+      },
       record { here = refl; place = omega arith; nodes = omega arith; within = w; counted = c },
     )
 

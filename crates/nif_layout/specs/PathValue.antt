@@ -38,7 +38,8 @@ is_signed schema f = option_map_or (λ what. is_signed_leaf (leaf_of schema what
 
 -- a number of a width in bytes, extended by its sign to 64 bits where it is signed
 abbrev pub extended : Bool → ℕ → ℕ → ℕ
-extended signed width bits = if signed && nat_le (2 ^ (8 * width - 1)) bits then bits + (2 ^ 64 - 2 ^ (8 * width)) else bits
+extended signed width bits = if signed && nat_le (2 ^ (8 * width - 1)) bits then bits + (2 ^ 64 - 2 ^ (8 * width))
+    else bits
 
 -- the number that a node is, and 0 where it is none
 abbrev pub number_in : Bool → Node → ℕ
@@ -75,7 +76,8 @@ member_bits bits member = bits / 2 ^ member.pos % 2 ^ member.width
 -- first member of that name.
 abbrev pub step : Schema → Name → Found → Found
 step schema name (Value f (Group members)) = found (last_present name (passed (fields_in schema f) members []))
-step schema name (Value f (Num width little bits)) = option_map_or (λ member. Bits (member_bits bits member)) (list.find (λ (member : BitMember). bytes_eq name member.name) (bits_in schema f)) Nothing
+step schema name (Value f (Num width little bits)) = option_map_or (λ member. Bits (member_bits bits member))
+    (list.find (λ (member : BitMember). bytes_eq name member.name) (bits_in schema f)) Nothing
 step schema name _ = Nothing
 
 -- The number that was found, extended by its sign where it isn't the bits of a member; 0 where there is none.
@@ -95,7 +97,8 @@ header_value C (name ∷ []) =
     else if bytes_eq name (codes "User Version") then Some C.user
     else if bytes_eq name (codes "User Version 2") then Some C.bs
     else None
-header_value C (name ∷ next ∷ []) = if bytes_eq name (codes "BS Header") && bytes_eq next (codes "BS Version") then Some C.bs else None
+header_value C (name ∷ next ∷ []) = if bytes_eq name (codes "BS Header") && bytes_eq next (codes "BS Version")
+    then Some C.bs else None
 header_value C _ = None
 
 -- The value of a path behind these earlier fields: where one has its first name, what the path leads to from the last

@@ -37,7 +37,8 @@ enough_by k at false b false ea eb ec =
     inr (rw (ea, ec) refl, ltb-false (length at.left) k ec, ltb-false most_file_bytes (at.place + k) ea)
 
 pub enough : (k : ℕ) (at : Point) → Enough k at
-enough k at = enough_by k at (ltb most_file_bytes (at.place + k)) (ltb most_file_bytes (at.place + length at.left)) (ltb (length at.left) k) refl refl refl
+enough k at = enough_by k at (ltb most_file_bytes (at.place + k)) (ltb most_file_bytes (at.place + length at.left))
+    (ltb (length at.left) k) refl refl refl
 
 -- the point behind k bytes
 abbrev pub skip : ℕ → Point → Point

@@ -25,7 +25,8 @@ IsForm Single (Row n item) at =
 abbrev pub IsGroup : Schema → Context → (Kind → Node → Type 0) → List Field → Option ℕ → ℕ → Node → Type 0
 IsGroup schema C Single fields template arg at =
     (members : Members) × (at ≡ node.Group members)
-    × Fields (present schema C arg) (λ E f. IsForm Single (form_of schema C template arg E f)) (no_check {Why = Fault}) fields [] members
+    × Fields (present schema C arg) (λ E f. IsForm Single (form_of schema C template arg E f))
+    (no_check {Why = Fault}) fields [] members
 
 -- One value of a kind, in which groups lie at most d deep.
 abbrev pub Shape : Schema → Context → ℕ → Kind → Node → Type 0
@@ -45,7 +46,8 @@ FormShape schema C d form at = IsForm (Shape schema C d) form at
 abbrev pub LineShape : {Why : Type 0} → Schema → (Env → Context) → ℕ → Option ℕ → ℕ → Check Why → List Field → Env
     → Members → Type 0
 LineShape schema at d template arg check fields E members =
-    Fields (λ E f. present schema (at E) arg E f) (λ E f. FormShape schema (at E) d (form_of schema (at E) template arg E f)) check fields E members
+    Fields (λ E f. present schema (at E) arg E f)
+    (λ E f. FormShape schema (at E) d (form_of schema (at E) template arg E f)) check fields E members
 
 -- These bytes spell this node as a value of a type, by the number of its declaration, under a template and with an
 -- argument, in which groups lie at most d deep.

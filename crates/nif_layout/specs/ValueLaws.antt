@@ -25,7 +25,8 @@ use Rattle.nif_layout.specs.OpenKindLaws.{open_known, open_line_known, each_cont
 pub one_node : (S : Schema) (C : Context) (number : ℕ) (template : Option ℕ) (arg : ℕ) → Fits C
     → OneNode S C number template arg
 one_node S C number template arg fits c d a b bytes ha hb =
-    (shape_cancel S C fits c d (kind_of S C number template arg) a b [] [] ha.0 hb.0 (ap (λ s. s ++ []) (sym ha.1 ∙ hb.1))).0
+    (shape_cancel S C fits c d (kind_of S C number template arg) a b [] [] ha.0 hb.0
+    (ap (λ s. s ++ []) (sym ha.1 ∙ hb.1))).0
 
 pub no_prefix : (S : Schema) (C : Context) (number : ℕ) (template : Option ℕ) (arg : ℕ) → Fits C
     → NoProperPrefix S C number template arg
@@ -75,10 +76,15 @@ node_or_fails : (C : Context) (V : Node → Type 0) (F : Point → Fault → Typ
 node_or_fails C V F excludes one decides n p bytes there = by (decides (at_place n bytes p) (within n bytes p there))
   where
     by : Decided C.order V F (at_place n bytes p) → ExactlyOne (NodeStands C V bytes p n) (F (at_place n bytes p))
-    by (inl r) = inl ((r.0, r.2, passed_stands bytes p n (text C.order r.0) (nodes r.0) r.1 r.3), λ w h. excludes r.0 (at_place n bytes p) r.1 w r.2 r.3 h)
+    by (inl r) = inl (
+      (r.0, r.2, passed_stands bytes p n (text C.order r.0) (nodes r.0) r.1 r.3),
+      λ w h. excludes r.0
+          (at_place n bytes p) r.1 w r.2 r.3 h,
+    )
     by (inr r) =
         inr (
-          λ s. let q = stands_passed bytes p n (text C.order s.0) (nodes s.0) s.2 in excludes s.0 (at_place n bytes p) q.0 r.0 s.1 q.1 r.1,
+          λ s. let q = stands_passed bytes p n (text C.order s.0) (nodes s.0) s.2 in excludes s.0
+              (at_place n bytes p) q.0 r.0 s.1 q.1 r.1,
           (r.0, r.1, λ v h. one (at_place n bytes p) v r.0 h r.1),
         )
 
@@ -86,17 +92,23 @@ node_or_fails C V F excludes one decides n p bytes there = by (decides (at_place
 members_or_fail : {Why : Type 0} (T : Members → List ℕ) (V : Members → Type 0) (F : Point → Why → Type 0)
     → AllExclude T V F → OneFault F → AllDecide T V F
     → (n p : ℕ) (bytes : List ℕ) → IsPlace bytes p → n ≤ most_nodes
-    → ExactlyOne ((members : Members) × V members × Stands bytes p n (T members) (nodes_in members)) (F (at_place n bytes p))
+    → ExactlyOne ((members : Members) × V members × Stands bytes p n (T members) (nodes_in members))
+    (F (at_place n bytes p))
 members_or_fail {Why} T V F excludes one decides n p bytes there few =
     by (decides (at_place n bytes p) (within n bytes p there) few)
   where
     by : AllDecided T V F (at_place n bytes p)
         → ExactlyOne ((members : Members) × V members × Stands bytes p n (T members) (nodes_in members))
         (F (at_place n bytes p))
-    by (inl r) = inl ((r.0, r.2, passed_stands bytes p n (T r.0) (nodes_in r.0) r.1 r.3), λ w h. excludes r.0 (at_place n bytes p) r.1 w r.2 r.3 h)
+    by (inl r) = inl (
+      (r.0, r.2, passed_stands bytes p n (T r.0) (nodes_in r.0) r.1 r.3),
+      λ w h. excludes r.0
+          (at_place n bytes p) r.1 w r.2 r.3 h,
+    )
     by (inr r) =
         inr (
-          λ s. let q = stands_passed bytes p n (T s.0) (nodes_in s.0) s.2 in excludes s.0 (at_place n bytes p) q.0 r.0 s.1 q.1 r.1,
+          λ s. let q = stands_passed bytes p n (T s.0) (nodes_in s.0) s.2 in excludes s.0
+              (at_place n bytes p) q.0 r.0 s.1 q.1 r.1,
           (r.0, r.1, λ v h. one (at_place n bytes p) v r.0 h r.1),
         )
 
@@ -113,13 +125,18 @@ pub form_or_fails : (S : Schema) (C : Context) (number : ℕ) (template : Option
 form_or_fails S C number template arg f E fits opened has among d n p bytes there =
     let form = form_of S C template arg E f in
     let known = each_contained (λ f. (E : Env) → KnownForm (Known S C d) (form_of S C template arg E f)) (line S number) f among (open_line_known S (λ E. C) d number template arg opened has) E in
-    node_or_fails C (FormShape S C d form) (FormShapeFails S C d form) (form_shape_excludes S C fits d form) (form_shape_one S C fits d form)
+    node_or_fails C (FormShape S C d form) (FormShapeFails S C d form) (form_shape_excludes S C fits d form)
+    (form_shape_one S C fits d form)
     (form_shape_decides S C d form known) n p bytes there
 
-pub line_or_fails : {Why : Type 0} (S : Schema) (at : Env → Context) (number : ℕ) (template : Option ℕ) (arg : ℕ) (by_fault : Fault → Why) (check : Check Why)
+pub line_or_fails : {Why : Type 0} (S : Schema) (at : Env → Context) (number : ℕ) (template : Option ℕ) (arg : ℕ)
+    (by_fault : Fault → Why) (check : Check Why)
     → AllFit at → IsOpenType S number → HasTemplate S number template
     → LineSpelledOrFails S at template arg by_fault check (line S number)
 line_or_fails S at number template arg by_fault check fits opened has d n p bytes there few =
-    members_or_fail (line_text at (line S number) []) (LineShape S at d template arg check (line S number) []) (LineFails S at d template arg by_fault check (line S number) [])
-    (line_excludes S at fits d template arg by_fault check (line S number) []) (line_one S at fits d template arg by_fault check (line S number) [])
-    (line_decides S at d template arg by_fault check (line S number) (open_line_known S at d number template arg opened has) []) n p bytes there few
+    members_or_fail (line_text at (line S number) []) (LineShape S at d template arg check (line S number) [])
+    (LineFails S at d template arg by_fault check (line S number) [])
+    (line_excludes S at fits d template arg by_fault check (line S number) [])
+    (line_one S at fits d template arg by_fault check (line S number) [])
+    (line_decides S at d template arg by_fault check (line S number)
+    (open_line_known S at d number template arg opened has) []) n p bytes there few

@@ -16,17 +16,20 @@ ghost use Rattle.nif_layout.specs.Laws.{Fits, AllFit, IsOpenType, HasTemplate, O
 
 /// Two values of a type that are spelled by the same bytes are one.
 pub fn same_bytes_same_node()
-    ensures { (S : Schema) (C : Context) (number : ℕ) (template : Option ℕ) (arg : ℕ) → Fits C → OneNode S C number template arg }
+    ensures { (S : Schema) (C : Context) (number : ℕ) (template : Option ℕ) (arg : ℕ) → Fits C
+        → OneNode S C number template arg }
 {}
 
 /// No spelling of a value of a type is a proper prefix of another.
 pub fn no_proper_prefix()
-    ensures { (S : Schema) (C : Context) (number : ℕ) (template : Option ℕ) (arg : ℕ) → Fits C → NoProperPrefix S C number template arg }
+    ensures { (S : Schema) (C : Context) (number : ℕ) (template : Option ℕ) (arg : ℕ) → Fits C
+        → NoProperPrefix S C number template arg }
 {}
 
 /// At each place a value of an open type is spelled, or it fails in exactly one way.
 pub fn spelled_or_fails()
-    ensures { (S : Schema) (C : Context) (number : ℕ) (template : Option ℕ) (arg : ℕ) → Fits C → IsOpenType S number → HasTemplate S number template → SpelledOrFails S C number template arg }
+    ensures { (S : Schema) (C : Context) (number : ℕ) (template : Option ℕ) (arg : ℕ) → Fits C → IsOpenType S number
+        → HasTemplate S number template → SpelledOrFails S C number template arg }
 {}
 
 /// The bytes of the value of a field, whatever stands behind them, are those of one value.
@@ -36,18 +39,23 @@ pub fn one_form()
 
 /// At each place the value of a field of an open type is spelled, or it fails in exactly one way.
 pub fn form_spelled_or_fails()
-    ensures { (S : Schema) (C : Context) (number : ℕ) (template : Option ℕ) (arg : ℕ) (f : Field) (E : Env) → Fits C → IsOpenType S number → HasTemplate S number template → Contains (line S number) f → FormSpelledOrFails S C (form_of S C template arg E f) }
+    ensures { (S : Schema) (C : Context) (number : ℕ) (template : Option ℕ) (arg : ℕ) (f : Field) (E : Env) → Fits C
+        → IsOpenType S number → HasTemplate S number template → Contains (line S number) f
+        → FormSpelledOrFails S C (form_of S C template arg E f) }
 {}
 
 /// The bytes of the members of a line, whatever stands behind them, are those of one list of members. Each member may
 /// have a context of its own, and be refused for a reason of the caller's.
 pub fn one_line<W>()
-    ensures { (S : Schema) (at : Env → Context) (template : Option ℕ) (arg : ℕ) (check : Check W) (fields : List Field) (E : Env) → AllFit at → OneLine S at template arg check fields E }
+    ensures { (S : Schema) (at : Env → Context) (template : Option ℕ) (arg : ℕ) (check : Check W) (fields : List Field)
+        (E : Env) → AllFit at → OneLine S at template arg check fields E }
 {}
 
 /// At each place the members of the line of an open type are spelled, or they fail in exactly one way.
 pub fn line_spelled_or_fails<W>()
-    ensures { (S : Schema) (at : Env → Context) (number : ℕ) (template : Option ℕ) (arg : ℕ) (by_fault : Fault → W) (check : Check W) → AllFit at → IsOpenType S number → HasTemplate S number template → LineSpelledOrFails S at template arg by_fault check (line S number) }
+    ensures { (S : Schema) (at : Env → Context) (number : ℕ) (template : Option ℕ) (arg : ℕ) (by_fault : Fault → W)
+        (check : Check W) → AllFit at → IsOpenType S number → HasTemplate S number template
+        → LineSpelledOrFails S at template arg by_fault check (line S number) }
 {}
 
 /// In an open type each expression of each field of its line was read, and each path in it has a value, whatever was

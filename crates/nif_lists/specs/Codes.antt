@@ -7,7 +7,8 @@ abbrev pub coded_listed : Coded Listed
 coded_listed =
     code_by
     (List (Option ℕ) × (Option (List ℕ) × Option (List ℕ)))
-    (coded× (coded_list (coded_option coded_ℕ)) (coded× (coded_option (coded_list coded_ℕ)) (coded_option (coded_list coded_ℕ))))
+    (coded× (coded_list (coded_option coded_ℕ)) (coded× (coded_option (coded_list coded_ℕ))
+    (coded_option (coded_list coded_ℕ))))
     (λ l. (l.types, (l.index, l.sizes)))
     (λ p. record { types = p.0; index = p.1.0; sizes = p.1.1 })
     (λ _. refl)

@@ -53,7 +53,8 @@ fn with_word(
     words: Option<Vec<u16>>,
     step: Step,
 ) -> Result<Option<Vec<u16>>, NoMemory>
-    ensures { IfOk result (λ new. option_map (λ list. list.items) new ≡ with_number (2 ^ 16) step (option_map (λ list. list.items) words)) }
+    ensures { IfOk result (λ new. option_map (λ list. list.items) new
+        ≡ with_number (2 ^ 16) step (option_map (λ list. list.items) words)) }
 {
     match step {
         Step::Row { .. } => Ok(Some(Vec::new(alloc))),
@@ -76,7 +77,8 @@ fn with_size(
     sizes: Option<Vec<u32>>,
     step: Step,
 ) -> Result<Option<Vec<u32>>, NoMemory>
-    ensures { IfOk result (λ new. option_map (λ list. list.items) new ≡ with_number (2 ^ 32) step (option_map (λ list. list.items) sizes)) }
+    ensures { IfOk result (λ new. option_map (λ list. list.items) new
+        ≡ with_number (2 ^ 32) step (option_map (λ list. list.items) sizes)) }
 {
     match step {
         Step::Row { .. } => Ok(Some(Vec::new(alloc))),
@@ -108,7 +110,10 @@ impl Lists {
 
     /// Puts the block type of a name behind the others. After want of memory the lists are as before.
     pub(crate) fn keep_type(&mut self, schema: &Schema, name: &[u8]) -> Result<(), NoMemory>
-        ensures ok { OnOk result (self.new ≡ record self.old { types = self.old.types ++ find_block schema.now name.now ∷ [] }) }
+        ensures ok { OnOk result (self.new ≡ record self.old {
+          types = self.old.types
+              ++ find_block schema.now name.now ∷ [];
+        }) }
         ensures err { OnErr result (self.new ≡ self.old) }
     {
         match self.types.push(find_block(schema, name)) {

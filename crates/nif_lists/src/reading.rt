@@ -37,7 +37,8 @@ pub(crate) fn gather(
     places: &RolePlaces,
 ) -> Result<Lists, NoMemory>
     requires { IsLive store.now header.run.key }
-    ensures { IfOk result (λ lists. IfSome (find store.now.trees header.run.key) (λ node. lists ≡ kept_of schema.now places.now node)) }
+    ensures { IfOk result (λ lists. IfSome (find store.now.trees header.run.key)
+        (λ node. lists ≡ kept_of schema.now places.now node)) }
 {
     let mut lists = Lists::new(alloc);
     let mut walk = store.walk(header);
@@ -62,7 +63,8 @@ pub fn read_lists(
     requires header { IsSomeAnd (find store.now.trees header.run.key) (IsHeader schema.now) }
     requires places { ArePlaces schema.now places.now }
     requires roles { Roles schema.now }
-    ensures { IfOk result (λ lists. IfSome (find store.now.trees header.run.key) (λ node. AreListsOf schema.now (head_of schema.now (members_of node)) lists)) }
+    ensures { IfOk result (λ lists. IfSome (find store.now.trees header.run.key)
+        (λ node. AreListsOf schema.now (head_of schema.now (members_of node)) lists)) }
 {
     // The contract of `count` says that the names of a schema are different, and its basics of their kinds.
     let _declarations = schema.count();
@@ -78,7 +80,8 @@ pub fn type_name(
     entry: u32,
 ) -> Result<Word, NoMemory>
     requires { IsLive store.now header.run.key }
-    ensures { IfOk result (λ word. IfSome (find store.now.trees header.run.key) (λ node. IsNameOf places.now entry node word)) }
+    ensures { IfOk result (λ word. IfSome (find store.now.trees header.run.key)
+        (λ node. IsNameOf places.now entry node word)) }
 {
     let mut walk = store.walk(header);
     let _group = walk.next();

@@ -21,7 +21,8 @@ new_inner e = if e.is_new then option_to_list e.shape.inner else []
 abbrev pub IsCovered : List ℕ → List Entry → Type 0
 IsCovered before [] = Unit {0}
 IsCovered before (e ∷ entries) =
-    ((inner : ℕ) → e.shape.inner ≡ Some inner → Contains (before ++ new_inner e) inner) × IsCovered (before ++ new_inner e) entries
+    ((inner : ℕ) → e.shape.inner ≡ Some inner → Contains (before ++ new_inner e) inner)
+    × IsCovered (before ++ new_inner e) entries
 
 pub record IsStack (entries : List Entry) (inners : List ℕ) (not_numbers not_rows not_inner : ℕ) : Type 0 where
   pub numbers : not_numbers ≡ count_by (λ s. not s.number) (shapes_of entries)
@@ -41,4 +42,5 @@ pub record AreOrdered (since : List ℕ) (types marks : ℕ) : Type 0 where
 
 -- Each name is found at its place.
 abbrev pub ArePlaced : List (List ℕ) → BTreeMap (Vec ℕ Global) ℕ → Type 0
-ArePlaced names places = (name : List ℕ) → get_by (λ key. slice_cmp nat_cmp name key.items) places ≡ position (bytes_eq name) names
+ArePlaced names places =
+    (name : List ℕ) → get_by (λ key. slice_cmp nat_cmp name key.items) places ≡ position (bytes_eq name) names

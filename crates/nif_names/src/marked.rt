@@ -85,7 +85,8 @@ impl MarkedTypes {
     /// Puts a type on top; after want of memory the stack is as before.
     pub fn push(&mut self, kind: u32) -> Result<(), NoMemory>
         ensures types { OnOk result (self.new.types ≡ self.old.types ++ kind ∷ []) }
-        ensures marks { OnOk result ((key types : List ℕ) (stop : ℕ) → IsFound self.new key types stop → IsFound self.old key types stop) }
+        ensures marks { OnOk result ((key types : List ℕ) (stop : ℕ) → IsFound self.new key types stop
+            → IsFound self.old key types stop) }
         ensures err { OnErr result (self.new ≡ self.old) }
     {
         let Ok(()) = self.since.push(self.marks.len()) else {
@@ -101,7 +102,8 @@ impl MarkedTypes {
     /// Takes types off until so many are left.
     pub fn cut(&mut self, count: usize)
         ensures types { self.new.types ≡ take count self.old.types }
-        ensures marks { (key types : List ℕ) (stop : ℕ) → IsFound self.new key types stop → IsFound self.old key types stop }
+        ensures marks { (key types : List ℕ) (stop : ℕ) → IsFound self.new key types stop
+            → IsFound self.old key types stop }
     {
         self.types.truncate(count);
         self.since.truncate(count);
@@ -112,7 +114,8 @@ impl MarkedTypes {
     pub fn mark(&mut self, key: &[u16], found: Found) -> Result<(), NoMemory>
         ensures types { self.new.types ≡ self.old.types }
         ensures marks { OnOk result ((other types : List ℕ) (stop : ℕ) → IsFound self.new other types stop
-            → IsFound self.old other types stop ⊎ ((other ≡ key.now) × (types ≡ take found.count self.old.types) × (stop ≡ found.stop))) }
+            → IsFound self.old other types stop ⊎ ((other ≡ key.now) × (types ≡ take found.count self.old.types)
+            × (stop ≡ found.stop))) }
         ensures err { OnErr result (self.new ≡ self.old) }
     {
         let before = self.last(key);

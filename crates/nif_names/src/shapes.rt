@@ -122,7 +122,8 @@ impl Shapes {
     pub fn found(&mut self, key: &[u16]) -> Option<Found>
         ensures same { self.new ≡ self.old }
         ensures within { IfSome result (λ found. found.count ≤ length self.old.kinds.types) }
-        ensures found { IfSome result (λ found. IsFound self.old.kinds key.now (take found.count self.old.kinds.types) found.stop) }
+        ensures found { IfSome result (λ found. IsFound self.old.kinds key.now
+            (take found.count self.old.kinds.types) found.stop) }
     {
         self.inners.found(key)
     }
@@ -132,7 +133,8 @@ impl Shapes {
         ensures shapes { self.new.shapes ≡ self.old.shapes }
         ensures types { self.new.kinds.types ≡ self.old.kinds.types }
         ensures marks { OnOk result ((other types : List ℕ) (stop : ℕ) → IsFound self.new.kinds other types stop
-            → IsFound self.old.kinds other types stop ⊎ ((other ≡ key.now) × (types ≡ take found.count self.old.kinds.types) × (stop ≡ found.stop))) }
+            → IsFound self.old.kinds other types stop ⊎ ((other ≡ key.now)
+            × (types ≡ take found.count self.old.kinds.types) × (stop ≡ found.stop))) }
         ensures err { OnErr result (self.new ≡ self.old) }
     {
         self.inners.mark(key, found)
@@ -154,7 +156,8 @@ impl Shapes {
     /// Puts a shape on top; after want of memory the stack is as before.
     pub fn push(&mut self, shape: Shape) -> Result<(), NoMemory>
         ensures ok { OnOk result (self.new.shapes ≡ self.old.shapes ++ shape ∷ []) }
-        ensures marks { OnOk result ((key types : List ℕ) (stop : ℕ) → IsFound self.new.kinds key types stop → IsFound self.old.kinds key types stop) }
+        ensures marks { OnOk result ((key types : List ℕ) (stop : ℕ) → IsFound self.new.kinds key types stop
+            → IsFound self.old.kinds key types stop) }
         ensures err { OnErr result (self.new ≡ self.old) }
     {
         match shape.inner {
@@ -173,7 +176,8 @@ impl Shapes {
     fn push_known(&mut self, shape: Shape) -> Result<(), NoMemory>
         requires { (inner : ℕ) → shape.inner ≡ Some inner → Contains (inners self.old.shapes) inner }
         ensures ok { OnOk result (self.new.shapes ≡ self.old.shapes ++ shape ∷ []) }
-        ensures marks { OnOk result ((key types : List ℕ) (stop : ℕ) → IsFound self.new.kinds key types stop → IsFound self.old.kinds key types stop) }
+        ensures marks { OnOk result ((key types : List ℕ) (stop : ℕ) → IsFound self.new.kinds key types stop
+            → IsFound self.old.kinds key types stop) }
         ensures err { OnErr result (self.new ≡ self.old) }
     {
         let Ok(()) = self.entries.push(Entry {
@@ -193,7 +197,8 @@ impl Shapes {
     fn push_new(&mut self, shape: Shape, inner: u32) -> Result<(), NoMemory>
         requires { shape.inner ≡ Some inner }
         ensures ok { OnOk result (self.new.shapes ≡ self.old.shapes ++ shape ∷ []) }
-        ensures marks { OnOk result ((key types : List ℕ) (stop : ℕ) → IsFound self.new.kinds key types stop → IsFound self.old.kinds key types stop) }
+        ensures marks { OnOk result ((key types : List ℕ) (stop : ℕ) → IsFound self.new.kinds key types stop
+            → IsFound self.old.kinds key types stop) }
         ensures err { OnErr result (self.new ≡ self.old) }
     {
         let Ok(_) = self.places.insert(inner, self.inners.types().len()) else {
@@ -218,7 +223,8 @@ impl Shapes {
     /// Takes the top off, if there is one.
     pub fn pop(&mut self)
         ensures shapes { self.new.shapes ≡ take (length self.old.shapes - 1) self.old.shapes }
-        ensures marks { (key types : List ℕ) (stop : ℕ) → IsFound self.new.kinds key types stop → IsFound self.old.kinds key types stop }
+        ensures marks { (key types : List ℕ) (stop : ℕ) → IsFound self.new.kinds key types stop
+            → IsFound self.old.kinds key types stop }
     {
         let Some(entry) = self.entries.pop() else {
             return;

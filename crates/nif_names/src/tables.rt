@@ -60,8 +60,11 @@ impl Names {
 
     /// Puts a shape on the stack of a name; after want of memory all is as before.
     pub fn push(&mut self, name: &[u8], shape: Shape) -> Result<(), NoMemory>
-        ensures shapes { OnOk result ((other : List ℕ) → held self.new other ≡ (if bytes_eq other name.now then held self.old other ++ shape ∷ [] else held self.old other)) }
-        ensures marks { OnOk result ((other key types : List ℕ) (stop : ℕ) → IsFound (kinds self.new other) key types stop → IsFound (kinds self.old other) key types stop) }
+        ensures shapes { OnOk result ((other : List ℕ)
+            → held self.new other ≡ (if bytes_eq other name.now then held self.old other ++ shape ∷ []
+            else held self.old other)) }
+        ensures marks { OnOk result ((other key types : List ℕ) (stop : ℕ)
+            → IsFound (kinds self.new other) key types stop → IsFound (kinds self.old other) key types stop) }
         ensures err { OnErr result (self.new ≡ self.old) }
     {
         let place = match self.places.find(name) {
@@ -75,8 +78,11 @@ impl Names {
     /// Puts a shape on the stack of a name that isn't there yet.
     fn push_first(&mut self, name: &[u8], shape: Shape) -> Result<(), NoMemory>
         requires { position (bytes_eq name.now) self.old.names ≡ None }
-        ensures shapes { OnOk result ((other : List ℕ) → held self.new other ≡ (if bytes_eq other name.now then held self.old other ++ shape ∷ [] else held self.old other)) }
-        ensures marks { OnOk result ((other key types : List ℕ) (stop : ℕ) → IsFound (kinds self.new other) key types stop → IsFound (kinds self.old other) key types stop) }
+        ensures shapes { OnOk result ((other : List ℕ)
+            → held self.new other ≡ (if bytes_eq other name.now then held self.old other ++ shape ∷ []
+            else held self.old other)) }
+        ensures marks { OnOk result ((other key types : List ℕ) (stop : ℕ)
+            → IsFound (kinds self.new other) key types stop → IsFound (kinds self.old other) key types stop) }
         ensures err { OnErr result (self.new ≡ self.old) }
     {
         match first_stack(self.alloc, shape) {
@@ -88,7 +94,11 @@ impl Names {
     /// Puts a stack under a name that isn't there yet.
     fn put(&mut self, name: &[u8], stack: Shapes) -> Result<(), NoMemory>
         requires { position (bytes_eq name.now) self.old.names ≡ None }
-        ensures ok { OnOk result (self.new ≡ record { names = self.old.names ++ name.now ∷ []; stacks = self.old.stacks ++ stack ∷ [] }) }
+        ensures ok { OnOk result (self.new ≡ record {
+          names = self.old.names ++ name.now ∷ [];
+          stacks = self.old.stacks
+              ++ stack ∷ [];
+        }) }
         ensures err { OnErr result (self.new ≡ self.old) }
     {
         if self.stacks.reserve(1).is_err() {
@@ -105,8 +115,11 @@ impl Names {
 
     /// Takes the top off the stack of a name, if there is one.
     pub fn pop(&mut self, name: &[u8])
-        ensures shapes { (other : List ℕ) → held self.new other ≡ (if bytes_eq other name.now then take (length (held self.old other) - 1) (held self.old other) else held self.old other) }
-        ensures marks { (other key types : List ℕ) (stop : ℕ) → IsFound (kinds self.new other) key types stop → IsFound (kinds self.old other) key types stop }
+        ensures shapes { (other : List ℕ) → held self.new other
+            ≡ (if bytes_eq other name.now then take (length (held self.old other) - 1) (held self.old other)
+            else held self.old other) }
+        ensures marks { (other key types : List ℕ) (stop : ℕ) → IsFound (kinds self.new other) key types stop
+            → IsFound (kinds self.old other) key types stop }
     {
         let Some(place) = self.places.find(name) else {
             return;
@@ -130,7 +143,8 @@ impl Names {
     pub fn found(&mut self, name: &[u8], key: &[u16]) -> Option<Found>
         ensures same { self.new ≡ self.old }
         ensures within { IfSome result (λ found. found.count ≤ length (kinds self.old name.now).types) }
-        ensures found { IfSome result (λ found. IsFound (kinds self.old name.now) key.now (take found.count (kinds self.old name.now).types) found.stop) }
+        ensures found { IfSome result (λ found. IsFound (kinds self.old name.now) key.now
+            (take found.count (kinds self.old name.now).types) found.stop) }
     {
         let place = self.places.find(name)?;
         let stack = &mut self.stacks[place];
@@ -141,8 +155,11 @@ impl Names {
     pub fn mark(&mut self, name: &[u8], key: &[u16], found: Found) -> Result<(), NoMemory>
         ensures shapes { (other : List ℕ) → held self.new other ≡ held self.old other }
         ensures types { (other : List ℕ) → (kinds self.new other).types ≡ (kinds self.old other).types }
-        ensures marks { OnOk result ((other under types : List ℕ) (stop : ℕ) → IsFound (kinds self.new other) under types stop
-            → IsFound (kinds self.old other) under types stop ⊎ ((other ≡ name.now) × (under ≡ key.now) × (types ≡ take found.count (kinds self.old other).types) × (stop ≡ found.stop))) }
+        ensures marks { OnOk result ((other under types : List ℕ) (stop : ℕ)
+            → IsFound (kinds self.new other) under types stop
+            → IsFound (kinds self.old other) under types stop
+            ⊎ ((other ≡ name.now) × (under ≡ key.now) × (types ≡ take found.count (kinds self.old other).types)
+            × (stop ≡ found.stop))) }
         ensures err { OnErr result (self.new ≡ self.old) }
     {
         let Some(place) = self.places.find(name) else {

@@ -20,7 +20,8 @@ use Rattle.nif_paths.specs.declared.lines.Line.{Line}
 abbrev pub types_reason : Schema → List ℕ → List Name → Option Closed
 types_reason schema types [] = None
 types_reason schema types (name ∷ names) =
-    if list_any (λ k. is_empty (lead schema name k)) types then Some C5 else rest_reason schema (flat_map (lead schema name) types) names
+    if list_any (λ k. is_empty (lead schema name k)) types then Some C5
+    else rest_reason schema (flat_map (lead schema name) types) names
 
 -- Where the names after a first one stop, as a number: twice the names that are left, and one more where a meaning is
 -- of the wrong kind for its place; 0 where they don't. The greater number is the earlier stop.
@@ -36,7 +37,8 @@ rest_stop schema meanings (name ∷ names) =
 abbrev pub types_stop : Schema → List ℕ → List Name → ℕ
 types_stop schema types [] = 0
 types_stop schema types (name ∷ names) =
-    if list_any (λ k. is_empty (lead schema name k)) types then 2 * length (name ∷ names) else rest_stop schema (flat_map (lead schema name) types) names
+    if list_any (λ k. is_empty (lead schema name k)) types then 2 * length (name ∷ names)
+    else rest_stop schema (flat_map (lead schema name) types) names
 
 -- the reason of a stop
 unfoldable pub stop_reason : ℕ → Option Closed
@@ -49,7 +51,8 @@ key_of_name name = map (λ b. b + 1) name ++ 0 ∷ []
 -- What was found of types under a name is where it stops.
 abbrev pub HasMarks : Schema → Table → Type 0
 HasMarks schema names =
-    (first name : Name) (types : List ℕ) (stop : ℕ) → IsFound (kinds names first) (key_of_name name) types stop → types_stop schema types (name ∷ []) ≡ stop
+    (first name : Name) (types : List ℕ) (stop : ℕ) → IsFound (kinds names first) (key_of_name name) types stop
+    → types_stop schema types (name ∷ []) ≡ stop
 
 -- the bounds of a run of types as a key, which is that of no name: each in two halves
 abbrev pub key_of_run : ℕ → ℕ → List ℕ
@@ -63,7 +66,9 @@ pub record IsSetOf (sets : Sets) (set : TypeSet) (types : List ℕ) : Type 0 whe
 -- What was found of types under a run is a joined set: that of all of them from the first bound on.
 abbrev pub HasRuns : Table → Sets → Type 0
 HasRuns names sets =
-    (first : Name) (from to : ℕ) (types : List ℕ) (number : ℕ) → IsFound (kinds names first) (key_of_run from to) types number → IsSetOf sets (Joined number) (drop from types)
+    (first : Name) (from to : ℕ) (types : List ℕ) (number : ℕ)
+    → IsFound (kinds names first) (key_of_run from to) types number
+    → IsSetOf sets (Joined number) (drop from types)
 
 -- a line of these fields, where whatever is kept is right
 pub record IsLine (schema : Schema) (fields : List Field) (line : Line) : Type 0 where
@@ -84,4 +89,5 @@ pub record IsSame (tables : List Table) (old new : Line) : Type 0 where
 -- a reason behind the fields of a line, of which only what is kept changes
 abbrev pub Gives : (Schema → List Field → Option Closed) → List Table → Line → Line → Option Closed → Type 0
 Gives of tables old new reason =
-    (schema : Schema) (fields : List Field) → AreInsides schema tables → IsLine schema fields old → (reason ≡ of schema fields) × IsLine schema fields new
+    (schema : Schema) (fields : List Field) → AreInsides schema tables → IsLine schema fields old
+    → (reason ≡ of schema fields) × IsLine schema fields new

@@ -17,7 +17,8 @@ pub record AreMarks (schema : Schema) (marks : List Bool) : Type 0 where
 
 -- a declaration whose names may follow in a path
 unfoldable pub with_names : Schema → ℕ → Option ℕ
-with_names schema number = if option_map_or (has_names schema number) (what_at schema number) false then Some number else None
+with_names schema number = if option_map_or (has_names schema number) (what_at schema number) false then Some number
+    else None
 
 unfoldable pub inner_of : Schema → Field → Option ℕ
 inner_of schema f = if is_none f.length then option_and_then (with_names schema) (named schema f.kind) else None

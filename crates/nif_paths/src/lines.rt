@@ -44,21 +44,24 @@ impl Line {
     /// Puts a field behind the others; after want of memory the line isn't to be used again.
     pub fn push(&mut self, schema: &Schema, generic: &[bool], of: &Field) -> Result<(), NoMemory>
         requires { AreMarks schema.now generic.now }
-        ensures { OnOk result ((fields : List plain.Field) → IsLine schema.now fields self.old → IsLine schema.now (fields ++ field of.now ∷ []) self.new) }
+        ensures { OnOk result ((fields : List plain.Field) → IsLine schema.now fields self.old
+            → IsLine schema.now (fields ++ field of.now ∷ []) self.new) }
     {
         push_field(schema, generic, &mut self.names, of)
     }
 
     /// Takes the last field off.
     pub fn pop(&mut self, schema: &Schema, of: &Field)
-        ensures { (fields : List plain.Field) → IsLine schema.now (fields ++ field of.now ∷ []) self.old → IsLine schema.now fields self.new }
+        ensures { (fields : List plain.Field) → IsLine schema.now (fields ++ field of.now ∷ []) self.old
+            → IsLine schema.now fields self.new }
     {
         pop_field(schema, &mut self.names, of);
     }
 
     /// Takes all fields off. The sets stay, if there is room for more.
     pub fn clear(&mut self, alloc: Global)
-        ensures { (schema : spec.Schema) (fields : List plain.Field) → IsLine schema fields self.old → IsLine schema [] self.new }
+        ensures { (schema : spec.Schema) (fields : List plain.Field) → IsLine schema fields self.old
+            → IsLine schema [] self.new }
     {
         self.names = Names::new(alloc);
         if self.sets.is_full() {

@@ -54,7 +54,9 @@ fn next_half(types: &[u32], count: usize) -> &[u32]
 /// Whether what was found of the first types is what there is to find of all: because they are all, or because one of
 /// them lacks the name, than which nothing comes first.
 fn is_settled(types: &[u32], name: &Word, found: Found) -> bool
-    ensures settled { IsTrue result → (schema : Schema) → types_stop schema (take found.count types.now) (name.now ∷ []) ≡ found.stop → types_stop schema types.now (name.now ∷ []) ≡ found.stop }
+    ensures settled { IsTrue result → (schema : Schema)
+        → types_stop schema (take found.count types.now) (name.now ∷ []) ≡ found.stop
+        → types_stop schema types.now (name.now ∷ []) ≡ found.stop }
     ensures open { IsFalse result → found.count < length types.now }
 {
     if found.stop == 2 {
@@ -69,7 +71,8 @@ fn look_further(tables: &[Names], types: &[u32], name: &Word, found: Found) -> F
     ensures some { found.count < result.count }
     ensures within { result.count ≤ length types.now }
     ensures stop { (schema : Schema) → AreInsides schema tables.now
-        → types_stop schema (take found.count types.now) (name.now ∷ []) ≡ found.stop → types_stop schema (take result.count types.now) (name.now ∷ []) ≡ result.stop }
+        → types_stop schema (take found.count types.now) (name.now ∷ []) ≡ found.stop
+        → types_stop schema (take result.count types.now) (name.now ∷ []) ≡ result.stop }
 {
     let half = next_half(types, found.count);
     Found {
@@ -103,9 +106,11 @@ fn kept_reason(
 ) -> Result<Option<Closed>, NoMemory>
     requires { key.now ≡ key_of_name name.now }
     ensures reason { IfOk result (λ reason. (schema : Schema) → AreInsides schema tables.now → HasMarks schema names.old
-        → (reason ≡ types_reason schema (inners (held names.old first.now)) (name.now ∷ [])) × HasMarks schema names.new) }
+        → (reason ≡ types_reason schema (inners (held names.old first.now)) (name.now ∷ []))
+        × HasMarks schema names.new) }
     ensures shapes { IfOk result (λ reason. (other : List ℕ) → held names.new other ≡ held names.old other) }
-    ensures runs { IfOk result (λ reason. (other : List ℕ) (from to : ℕ) (types : List ℕ) (stop : ℕ) → IsFound (kinds names.new other) (key_of_run from to) types stop
+    ensures runs { IfOk result (λ reason. (other : List ℕ) (from to : ℕ) (types : List ℕ) (stop : ℕ)
+        → IsFound (kinds names.new other) (key_of_run from to) types stop
         → IsFound (kinds names.old other) (key_of_run from to) types stop) }
 {
     let mut found = found_before(names, first, key);
@@ -143,9 +148,11 @@ pub(crate) fn pair_reason(
     name: &Word,
 ) -> Result<Option<Closed>, NoMemory>
     ensures reason { IfOk result (λ reason. (schema : Schema) → AreInsides schema tables.now → HasMarks schema names.old
-        → (reason ≡ types_reason schema (inners (held names.old first.now)) (name.now ∷ [])) × HasMarks schema names.new) }
+        → (reason ≡ types_reason schema (inners (held names.old first.now)) (name.now ∷ []))
+        × HasMarks schema names.new) }
     ensures shapes { IfOk result (λ reason. (other : List ℕ) → held names.new other ≡ held names.old other) }
-    ensures runs { IfOk result (λ reason. (other : List ℕ) (from to : ℕ) (types : List ℕ) (stop : ℕ) → IsFound (kinds names.new other) (key_of_run from to) types stop
+    ensures runs { IfOk result (λ reason. (other : List ℕ) (from to : ℕ) (types : List ℕ) (stop : ℕ)
+        → IsFound (kinds names.new other) (key_of_run from to) types stop
         → IsFound (kinds names.old other) (key_of_run from to) types stop) }
 {
     match name_key(alloc, name) {

@@ -30,7 +30,8 @@ fn is_text(name: &Word, text: &[u8]) -> bool
 }
 
 fn is_header_name(name: &Word) -> bool
-    ensures { result ≡ bytes_eq name.now (codes "Version") || (bytes_eq name.now (codes "User Version") || bytes_eq name.now (codes "User Version 2")) }
+    ensures { result ≡ bytes_eq name.now (codes "Version")
+        || (bytes_eq name.now (codes "User Version") || bytes_eq name.now (codes "User Version 2")) }
 {
     if is_text(name, b"Version".as_slice()) {
         return true;
@@ -96,7 +97,8 @@ fn run_stop(
 ) -> Result<u64, NoMemory>
     requires some { from < to }
     requires within { to ≤ length (kinds line.old.names first.now).types }
-    ensures stop { IfOk result (λ stop. (schema : Schema) → AreInsides schema tables.now → HasRuns line.old.names line.old.sets → AreKnown tables.now line.old.sets
+    ensures stop { IfOk result (λ stop. (schema : Schema) → AreInsides schema tables.now
+        → HasRuns line.old.names line.old.sets → AreKnown tables.now line.old.sets
         → stop ≡ types_stop schema (drop from (take to (kinds line.old.names first.now).types)) (drop 1 path.now)) }
     ensures same { IfOk result (λ stop. IsSame tables.now line.old line.new) }
 {
@@ -116,8 +118,10 @@ fn long_reason(
     path: &Path,
 ) -> Result<Option<Closed>, NoMemory>
     requires { 1 < length path.now }
-    ensures { IfOk result (λ reason. (schema : Schema) (fields : List plain.Field) → AreInsides schema tables.now → IsLine schema fields line.old
-        → (reason ≡ types_reason schema (inners (held line.old.names first.now)) (drop 1 path.now)) × IsLine schema fields line.new) }
+    ensures { IfOk result (λ reason. (schema : Schema) (fields : List plain.Field) → AreInsides schema tables.now
+        → IsLine schema fields line.old
+        → (reason ≡ types_reason schema (inners (held line.old.names first.now)) (drop 1 path.now))
+        × IsLine schema fields line.new) }
 {
     let Ok(count) = u32::try_from(line.names.inners(first).len()) else {
         return Err(NoMemory);
@@ -144,7 +148,8 @@ fn unkept_reason(
     first: &[u8],
     path: &Path,
 ) -> Result<Option<Closed>, NoMemory>
-    ensures { IfOk result (λ reason. (schema : Schema) → AreInsides schema tables.now → reason ≡ types_reason schema (inners (held line.now.names first.now)) (drop 1 path.now)) }
+    ensures { IfOk result (λ reason. (schema : Schema) → AreInsides schema tables.now
+        → reason ≡ types_reason schema (inners (held line.now.names first.now)) (drop 1 path.now)) }
 {
     match types_stop(alloc, tables, line.names.inners(first), path) {
         Ok(stop) => Ok(stop_reason(stop)),

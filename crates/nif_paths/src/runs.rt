@@ -82,7 +82,8 @@ fn run_key(alloc: Global, from: u32, to: u32) -> Result<Vec<u16>, NoMemory>
 fn kept_set(line: &mut Line, first: &[u8], key: &[u16], to: u32) -> Option<TypeSet>
     ensures same { line.new ≡ line.old }
     ensures within { IfSome result (λ set. IsSet line.old.sets set) }
-    ensures types { IfSome result (λ set. (from : ℕ) → key.now ≡ key_of_run from to → HasRuns line.old.names line.old.sets
+    ensures types { IfSome result (λ set. (from : ℕ) → key.now ≡ key_of_run from to
+        → HasRuns line.old.names line.old.sets
         → IsSetOf line.old.sets set (drop from (take to (kinds line.old.names first.now).types))) }
 {
     let found = line.names.found(first, key)?;
@@ -102,8 +103,11 @@ fn keep_set(
 ) -> Result<(), NoMemory>
     ensures shapes { (other : List ℕ) → held names.new other ≡ held names.old other }
     ensures types { (other : List ℕ) → (kinds names.new other).types ≡ (kinds names.old other).types }
-    ensures found { OnOk result ((other under types : List ℕ) (number : ℕ) → IsFound (kinds names.new other) under types number
-        → IsFound (kinds names.old other) under types number ⊎ ((other ≡ first.now) × (under ≡ key.now) × (types ≡ take to (kinds names.old other).types) × (set ≡ Joined number))) }
+    ensures found { OnOk result ((other under types : List ℕ) (number : ℕ)
+        → IsFound (kinds names.new other) under types number
+        → IsFound (kinds names.old other) under types number
+        ⊎ ((other ≡ first.now) × (under ≡ key.now) × (types ≡ take to (kinds names.old other).types)
+        × (set ≡ Joined number))) }
 {
     let TypeSet::Joined { number } = set else {
         return Ok(());
@@ -130,7 +134,8 @@ pub(crate) fn run_set(
     requires some { from < to }
     requires within { to ≤ length (kinds line.old.names first.now).types }
     ensures within { IfOk result (IsSet line.new.sets) }
-    ensures types { IfOk result (λ set. HasRuns line.old.names line.old.sets → IsSetOf line.new.sets set (drop from (take to (kinds line.old.names first.now).types))) }
+    ensures types { IfOk result (λ set. HasRuns line.old.names line.old.sets
+        → IsSetOf line.new.sets set (drop from (take to (kinds line.old.names first.now).types))) }
     ensures same { IfOk result (λ set. (tables : List Table) → IsSame tables line.old line.new) }
 {
     if to - from == 1 {

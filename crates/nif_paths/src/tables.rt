@@ -21,16 +21,20 @@ pub(crate) fn push_field(
     of: &Field,
 ) -> Result<(), NoMemory>
     requires { AreMarks schema.now generic.now }
-    ensures fields { OnOk result ((fields : List plain.Field) → HasFields schema.now fields names.old → HasFields schema.now (fields ++ field of.now ∷ []) names.new) }
-    ensures kept { OnOk result ((other key types : List ℕ) (stop : ℕ) → IsFound (kinds names.new other) key types stop → IsFound (kinds names.old other) key types stop) }
+    ensures fields { OnOk result ((fields : List plain.Field) → HasFields schema.now fields names.old
+        → HasFields schema.now (fields ++ field of.now ∷ []) names.new) }
+    ensures kept { OnOk result ((other key types : List ℕ) (stop : ℕ) → IsFound (kinds names.new other) key types stop
+        → IsFound (kinds names.old other) key types stop) }
 {
     names.push(of.name.bytes(), field_shape(schema, generic, of))
 }
 
 /// Takes the last field off.
 pub(crate) fn pop_field(schema: &Schema, names: &mut Names, of: &Field)
-    ensures fields { (fields : List plain.Field) → HasFields schema.now (fields ++ field of.now ∷ []) names.old → HasFields schema.now fields names.new }
-    ensures kept { (other key types : List ℕ) (stop : ℕ) → IsFound (kinds names.new other) key types stop → IsFound (kinds names.old other) key types stop }
+    ensures fields { (fields : List plain.Field) → HasFields schema.now (fields ++ field of.now ∷ []) names.old
+        → HasFields schema.now fields names.new }
+    ensures kept { (other key types : List ℕ) (stop : ℕ) → IsFound (kinds names.new other) key types stop
+        → IsFound (kinds names.old other) key types stop }
 {
     names.pop(of.name.bytes());
 }
@@ -54,7 +58,8 @@ fn struct_names(
 }
 
 fn push_bit(names: &mut Names, name: &[u8]) -> Result<(), NoMemory>
-    ensures { OnOk result ((members : List BitMember) (m : BitMember) → m.name ≡ name.now → HasBits members names.old → HasBits (members ++ m ∷ []) names.new) }
+    ensures { OnOk result ((members : List BitMember) (m : BitMember) → m.name ≡ name.now → HasBits members names.old
+        → HasBits (members ++ m ∷ []) names.new) }
 {
     if names.look(name).is_some() {
         return Ok(());

@@ -17,7 +17,8 @@ pub(crate) fn types_stop(
     types: &[u32],
     path: &Path,
 ) -> Result<u64, NoMemory>
-    ensures { IfOk result (λ stop. (schema : Schema) → AreInsides schema tables.now → stop ≡ types_stop schema types.now (drop 1 path.now)) }
+    ensures { IfOk result (λ stop. (schema : Schema) → AreInsides schema tables.now
+        → stop ≡ types_stop schema types.now (drop 1 path.now)) }
 {
     let Ok(mut at) = Vec::from_slice(alloc, types) else {
         return Err(NoMemory);

@@ -81,4 +81,5 @@ file_fault_text file.NoMemory = codes "no memory"
 -- the line of a file that is accepted: its version, and how many blocks, bytes and nodes it has
 abbrev pub summary_text : ℕ → ℕ → ℕ → ℕ → List ℕ
 summary_text version blocks bytes nodes =
-    (codes "ok " ++ version_text version) ++ (counted_twice (codes " blocks ") blocks (codes " bytes ") bytes ++ (counted (codes " nodes ") nodes ++ codes "\n"))
+    (codes "ok " ++ version_text version) ++ (counted_twice (codes " blocks ") blocks (codes " bytes ") bytes
+    ++ (counted (codes " nodes ") nodes ++ codes "\n"))

@@ -21,12 +21,14 @@ plain_reason schema in_struct f = first_reason (
 
 -- the conditions
 unfoldable pub condition_reason : Schema → List Field → Field → Option Closed
-condition_reason schema earlier f = first_reason (formula_reason schema earlier f.vercond ∷ formula_reason schema earlier f.cond ∷ [])
+condition_reason schema earlier f =
+    first_reason (formula_reason schema earlier f.vercond ∷ formula_reason schema earlier f.cond ∷ [])
 
 -- the argument, the length and the width
 unfoldable pub size_reason : Schema → List Field → Field → Option Closed
 size_reason schema earlier f = first_reason (
-    formula_reason schema earlier f.arg ∷ formula_reason schema earlier f.length ∷ width_reason schema earlier (width_where f.length f.width) ∷ [])
+    formula_reason schema earlier f.arg ∷ formula_reason schema earlier f.length ∷ width_reason schema earlier
+    (width_where f.length f.width) ∷ [])
 
 -- the name of a path of one name
 abbrev pub only_name : List Name → Option Name
@@ -40,7 +42,8 @@ bare_name _ = None
 
 -- how a type is stored
 unfoldable pub type_reason : Schema → What → Option Closed
-type_reason schema what = first_reason (reason_where C10 (is_unread schema what) ∷ reason_where C13 (has_bad_member schema what) ∷ [])
+type_reason schema what =
+    first_reason (reason_where C10 (is_unread schema what) ∷ reason_where C13 (has_bad_member schema what) ∷ [])
 
 -- all that isn't of fields
 unfoldable pub early_reason : Schema → ℕ → Option Closed

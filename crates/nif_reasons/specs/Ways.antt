@@ -36,9 +36,11 @@ has_struct schema number = option_map_or (λ d. is_struct d.what) (slice_get sch
 abbrev pub AddsFields : Schema → Bool → Option Closed → List Field → Line → Line → Option Closed → Type 0
 AddsFields schema in_struct so_far fields old new reason =
     (earlier : List Field) → IsLine schema earlier old
-    → (reason ≡ first_reason (so_far ∷ fields_reason schema in_struct earlier fields ∷ [])) × IsLine schema (earlier ++ fields) new
+    → (reason ≡ first_reason (so_far ∷ fields_reason schema in_struct earlier fields ∷ []))
+    × IsLine schema (earlier ++ fields) new
 
 -- a reason so far, or else the first that an own field of a type gives, behind the fields on a way
 abbrev pub own_reason_on : Schema → List ℕ → Option Closed → ℕ → Option Closed
 own_reason_on schema way so_far number =
-    first_reason (so_far ∷ fields_reason schema (has_struct schema number) (fields_on schema way) (fields_of schema number) ∷ [])
+    first_reason (so_far ∷ fields_reason schema (has_struct schema number) (fields_on schema way)
+    (fields_of schema number) ∷ [])

@@ -175,7 +175,8 @@ fn condition_reason(
     line: &mut Line,
     of: &Field,
 ) -> Result<Option<Closed>, NoMemory>
-    ensures { IfOk result (Gives (λ schema fields. condition_reason schema fields (field of.now)) tables.now line.old line.new) }
+    ensures { IfOk result (Gives (λ schema fields. condition_reason schema fields
+        (field of.now)) tables.now line.old line.new) }
 {
     match formula_reason(alloc, tables, line, &of.vercond) {
         Ok(None) => formula_reason(alloc, tables, line, &of.cond),
@@ -191,7 +192,8 @@ fn size_reason(
     line: &mut Line,
     of: &Field,
 ) -> Result<Option<Closed>, NoMemory>
-    ensures { IfOk result (Gives (λ schema fields. size_reason schema fields (field of.now)) tables.now line.old line.new) }
+    ensures { IfOk result (Gives (λ schema fields. size_reason schema fields
+        (field of.now)) tables.now line.old line.new) }
 {
     match formula_reason(alloc, tables, line, &of.arg) {
         Ok(None) => {}
@@ -220,7 +222,8 @@ pub fn field_reason(
 ) -> Result<Option<Closed>, NoMemory>
     requires marks { AreMarks schema.now generic.now }
     requires insides { AreInsides schema.now tables.now }
-    ensures { IfOk result (λ reason. (fields : List plain.Field) → IsLine schema.now fields line.old → (reason ≡ spec.field_reason schema.now in_struct fields (field of.now)) × IsLine schema.now fields line.new) }
+    ensures { IfOk result (λ reason. (fields : List plain.Field) → IsLine schema.now fields line.old
+        → (reason ≡ spec.field_reason schema.now in_struct fields (field of.now)) × IsLine schema.now fields line.new) }
 {
     let reason = plain_reason(schema, generic, in_struct, of);
     if reason.is_some() {

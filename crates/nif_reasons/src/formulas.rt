@@ -23,7 +23,8 @@ fn expr_reason(
     line: &mut Line,
     expr: &Expr,
 ) -> Result<Option<Closed>, NoMemory>
-    ensures { IfOk result (Gives (λ schema fields. spec.first_reason (map (path_reason schema fields) (paths_of (tree expr.now)))) tables.now line.old line.new) }
+    ensures { IfOk result (Gives (λ schema fields. spec.first_reason
+        (map (path_reason schema fields) (paths_of (tree expr.now)))) tables.now line.old line.new) }
 {
     match expr {
         Expr::Number { .. } => Ok(None),
@@ -45,7 +46,8 @@ pub fn formula_reason(
     line: &mut Line,
     of: &Option<Formula>,
 ) -> Result<Option<Closed>, NoMemory>
-    ensures { IfOk result (Gives (λ schema fields. spec.formula_reason schema fields (option_map formula of.now)) tables.now line.old line.new) }
+    ensures { IfOk result (Gives (λ schema fields. spec.formula_reason schema fields
+        (option_map formula of.now)) tables.now line.old line.new) }
 {
     let Some(of) = of else {
         return Ok(None);
@@ -58,7 +60,8 @@ pub fn formula_reason(
 
 /// Why the fields of a bare name in a width close a type.
 fn bare_width_reason(shapes: &Shapes) -> Option<Closed>
-    ensures { result ≡ spec.reason_where C9 (not (list_all (λ s. s.number) shapes.now.shapes || list_all (λ s. s.row) shapes.now.shapes)) }
+    ensures { result ≡ spec.reason_where C9 (not (list_all (λ s. s.number) shapes.now.shapes
+        || list_all (λ s. s.row) shapes.now.shapes)) }
 {
     if shapes.all_numbers() {
         return None;
@@ -103,7 +106,8 @@ pub fn width_reason(
     line: &mut Line,
     width: &Option<Formula>,
 ) -> Result<Option<Closed>, NoMemory>
-    ensures { IfOk result (Gives (λ schema fields. spec.width_reason schema fields (option_map formula width.now)) tables.now line.old line.new) }
+    ensures { IfOk result (Gives (λ schema fields. spec.width_reason schema fields
+        (option_map formula width.now)) tables.now line.old line.new) }
 {
     let Some(name) = bare_name(width) else {
         return formula_reason(alloc, tables, line, width);

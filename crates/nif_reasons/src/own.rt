@@ -126,7 +126,8 @@ fn own_reason(
 /// The reason of each type, where the walk of parents ends from none.
 fn endless(alloc: Global, schema: &Schema) -> Result<Vec<Option<Closed>>, NoMemory>
     ensures count { IfOk result (λ reasons. length reasons.items ≡ length schema.now) }
-    ensures each { IfOk result (λ reasons. (number : ℕ) → number < length schema.now → slice_get reasons.items number ≡ Some (Some C3)) }
+    ensures each { IfOk result (λ reasons. (number : ℕ) → number < length schema.now
+        → slice_get reasons.items number ≡ Some (Some C3)) }
 {
     let mut reasons = Vec::new(alloc);
     for _number in 0..schema.count() {
@@ -194,7 +195,8 @@ fn all_reasons(
 /// each different name looks once at each set of types that paths lead to.
 pub fn own_reasons(alloc: Global, schema: &Schema) -> Result<Vec<Option<Closed>>, NoMemory>
     ensures count { IfOk result (λ reasons. length reasons.items ≡ length schema.now) }
-    ensures each { IfOk result (λ reasons. (number : ℕ) → number < length schema.now → slice_get reasons.items number ≡ Some (spec.own_reason schema.now number)) }
+    ensures each { IfOk result (λ reasons. (number : ℕ) → number < length schema.now
+        → slice_get reasons.items number ≡ Some (spec.own_reason schema.now number)) }
 {
     let generic = match generic_structs(alloc, schema) {
         Ok(generic) => generic,

@@ -36,7 +36,9 @@ fn next_reason(
 ) -> Result<Option<Closed>, NoMemory>
     requires marks { AreMarks schema.now generic.now }
     requires insides { AreInsides schema.now tables.now }
-    ensures { IfOk result (λ reason. (fields : List plain.Field) → IsLine schema.now fields line.old → (reason ≡ spec.first_reason (so_far ∷ spec.field_reason schema.now in_struct fields (field of.now) ∷ [])) × IsLine schema.now fields line.new) }
+    ensures { IfOk result (λ reason. (fields : List plain.Field) → IsLine schema.now fields line.old
+        → (reason ≡ spec.first_reason (so_far ∷ spec.field_reason schema.now in_struct fields (field of.now) ∷ []))
+        × IsLine schema.now fields line.new) }
 {
     if so_far.is_some() {
         return Ok(so_far);
@@ -75,7 +77,8 @@ fn add_fields(
 
 /// Takes fields off the end of a line.
 fn drop_fields(schema: &Schema, line: &mut Line, fields: &Fields)
-    ensures { (earlier : List plain.Field) → IsLine schema.now (earlier ++ map field fields.now) line.old → IsLine schema.now earlier line.new }
+    ensures { (earlier : List plain.Field) → IsLine schema.now (earlier ++ map field fields.now) line.old
+        → IsLine schema.now earlier line.new }
 {
     let mut left = fields.len();
     while left > 0 {
@@ -135,7 +138,8 @@ fn is_struct(what: &What) -> bool
 fn leave(schema: &Schema, way: &mut Way)
     requires { IsAt schema.now way.old.stack.items way.old.line }
     ensures at { IsAt schema.now way.new.stack.items way.new.line }
-    ensures shorter { (last : ℕ) → last_or None way.old.stack.items ≡ Some last → way.old.stack.items ≡ way.new.stack.items ++ last ∷ [] }
+    ensures shorter { (last : ℕ) → last_or None way.old.stack.items ≡ Some last
+        → way.old.stack.items ≡ way.new.stack.items ++ last ∷ [] }
 {
     let Some(number) = way.stack.pop() else {
         return;

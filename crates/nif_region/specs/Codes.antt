@@ -12,7 +12,8 @@ abbrev pub coded_contents : Coded Contents
 coded_contents =
     code_by
     (List (ℕ × List Cell) × (Option (List Cell) × (ℕ × (ℕ × ℕ))))
-    (coded× (coded_list (coded× coded_ℕ coded_cells)) (coded× (coded_option coded_cells) (coded× coded_ℕ (coded× coded_ℕ coded_ℕ))))
+    (coded× (coded_list (coded× coded_ℕ coded_cells))
+    (coded× (coded_option coded_cells) (coded× coded_ℕ (coded× coded_ℕ coded_ℕ))))
     (λ r. (r.runs, (r.building, (r.used, (r.spare_cells, r.spare_runs)))))
     (λ p. record { runs = p.0; building = p.1.0; used = p.1.1.0; spare_cells = p.1.1.1.0; spare_runs = p.1.1.1.1 })
     (λ _. refl)

@@ -39,7 +39,8 @@ place_of (Dead cells ∷ rest) key at = place_of rest key (at + suc (length cell
 abbrev pub segments : ℕ → List Cell → List Segment
 segments zero cells = []
 segments (suc more) [] = []
-segments (suc more) (c ∷ rest) = (if nat_eq c.kind 1 then Live c.bits (take c.size rest) else Dead (take c.size rest)) ∷ segments more (drop c.size rest)
+segments (suc more) (c ∷ rest) = (if nat_eq c.kind 1 then Live c.bits (take c.size rest)
+    else Dead (take c.size rest)) ∷ segments more (drop c.size rest)
 
 -- the live runs in cells of which the last so many are being built
 abbrev pub runs_in : ℕ → List Cell → List (ℕ × List Cell)
@@ -76,7 +77,8 @@ pub record IsKept (cells : List Cell) (places : Slab ℕ) (live building : ℕ) 
   pub room : slab_len places + min building 1 ≤ places.capacity
 
 -- after a slide no cell is dead, and the runs are as before
-pub record Slides (building : ℕ) (old : List Cell) (old_places : Slab ℕ) (new : List Cell) (new_places : Slab ℕ) : Type 0 where
+pub record Slides (building : ℕ) (old : List Cell) (old_places : Slab ℕ) (new : List Cell)
+    (new_places : Slab ℕ) : Type 0 where
   pub laid : IsLaid building new new_places
   pub same_runs : runs_in building new ≡ runs_in building old
   pub same_building : built_in building new ≡ built_in building old

@@ -8,7 +8,8 @@ module _ {A : Type 0} where
   pub find-append : (a b : List (ℕ × A)) (key : ℕ) → find (a ++ b) key ≡ option_or (find a key) (find b key)
   find-append [] b key = refl
   find-append (run ∷ rest) b key =
-      elim (nat_eq run.0 key) as (λ t. (if t then Some run.1 else find (rest ++ b) key) ≡ option_or (if t then Some run.1 else find rest key) (find b key)) [
+      elim (nat_eq run.0 key) as (λ t. (if t then Some run.1 else find (rest ++ b) key)
+      ≡ option_or (if t then Some run.1 else find rest key) (find b key)) [
         | true ↦ refl
         | false ↦ find-append rest b key
       ]
@@ -16,7 +17,8 @@ module _ {A : Type 0} where
   pub without-append : (key : ℕ) (a b : List (ℕ × A)) → without key (a ++ b) ≡ without key a ++ without key b
   without-append key [] b = refl
   without-append key (run ∷ rest) b =
-      elim (nat_eq run.0 key) as (λ t. (if t then without key (rest ++ b) else run ∷ without key (rest ++ b)) ≡ (if t then without key rest else run ∷ without key rest) ++ without key b) [
+      elim (nat_eq run.0 key) as (λ t. (if t then without key (rest ++ b) else run ∷ without key (rest ++ b))
+      ≡ (if t then without key rest else run ∷ without key rest) ++ without key b) [
         | true ↦ without-append key rest b
         | false ↦ ap (λ l. run ∷ l) (without-append key rest b)
       ]
@@ -44,7 +46,8 @@ module _ {A : Type 0} where
     ]
     | inr e ↦
         rw e.0 (
-        elim (nat_eq run.0 other) as (λ t. (if t then Some run.1 else find (without key rest) other) ≡ (if t then Some run.1 else find rest other)) [
+        elim (nat_eq run.0 other) as (λ t. (if t then Some run.1 else find (without key rest) other)
+        ≡ (if t then Some run.1 else find rest other)) [
           | true ↦ refl
           | false ↦ find-without_other key other rest ne
         ]
@@ -95,7 +98,11 @@ module _ {A : Type 0} where
             let all : option_or (find rest run.0) (find ((key, value) ∷ b) run.0) ≡ None = sym (find-append rest ((key, value) ∷ b) run.0) ∙ apart.0 in
             let at_key : option_or (find rest key) (find ((key, value) ∷ b) key) ≡ None = subst (λ k. option_or (find rest k) (find ((key, value) ∷ b) k) ≡ None) e.1 all in
             let hit : find ((key, value) ∷ b) key ≡ None = rw more.0 at at_key in
-            elim (eqb_tells key key) [ inl t ↦ (let none : (if true then Some value else find b key) ≡ None = rw t.0 at hit in cc) | inr f ↦ f.1 refl ]
+            elim (eqb_tells key key) [
+              | inl t ↦ (let none : (if true then Some value else find b key)
+                  ≡ None = rw t.0 at hit in cc)
+              | inr f ↦ f.1 refl
+            ]
             )
         | inr e ↦ (rw e.0 more.0, more.1)
       ]

@@ -107,7 +107,8 @@ impl Region {
     pub fn push(&mut self, cell: Cell) -> Result<(), NoMemory>
         requires { IsSomeAnd self.old.building (λ cells. length cells < 2 ^ 32 - 2) }
         ensures runs { self.new.runs ≡ self.old.runs }
-        ensures ok { OnOk result ((self.new.building ≡ pushed self.old.building cell) × (self.new.used ≡ self.old.used + 1)) }
+        ensures ok { OnOk result ((self.new.building ≡ pushed self.old.building cell)
+            × (self.new.used ≡ self.old.used + 1)) }
         ensures err { OnErr result ((self.new.building ≡ self.old.building) × (self.new.used ≡ self.old.used)) }
         ensures spare { SpareFalls self.old self.new 1 0 }
         ensures kept { OnErr result (SpareFalls self.old self.new 0 0) }
@@ -202,8 +203,10 @@ impl Region {
     /// Writes over a cell of a live run.
     pub fn set(&mut self, run: RunId, place: u32, cell: Cell)
         requires { IsSomeAnd (find self.old.runs run.key) (λ cells. place < length cells) }
-        ensures runs { IfSome (find self.old.runs run.key) (λ cells. self.new.runs ≡ put run.key (slice_set cells place cell) self.old.runs) }
-        ensures run { IfSome (find self.old.runs run.key) (λ cells. find self.new.runs run.key ≡ Some (slice_set cells place cell)) }
+        ensures runs { IfSome (find self.old.runs run.key)
+            (λ cells. self.new.runs ≡ put run.key (slice_set cells place cell) self.old.runs) }
+        ensures run { IfSome (find self.old.runs run.key)
+            (λ cells. find self.new.runs run.key ≡ Some (slice_set cells place cell)) }
         ensures others { (key : ℕ) → key ≢ run.key → find self.new.runs key ≡ find self.old.runs key }
         ensures building { self.new.building ≡ self.old.building }
         ensures used { self.new.used ≡ self.old.used }
@@ -221,8 +224,10 @@ impl Region {
         ensures gone { find self.new.runs run.key ≡ None }
         ensures others { (key : ℕ) → key ≢ run.key → find self.new.runs key ≡ find self.old.runs key }
         ensures building { self.new.building ≡ self.old.building }
-        ensures stays { self.old.used ≤ 2 * cells_of self.new.runs + cells_built self.new.building → self.new.used ≡ self.old.used }
-        ensures slides { 2 * cells_of self.new.runs + cells_built self.new.building < self.old.used → IsCompact self.new }
+        ensures stays { self.old.used ≤ 2 * cells_of self.new.runs + cells_built self.new.building
+            → self.new.used ≡ self.old.used }
+        ensures slides { 2 * cells_of self.new.runs + cells_built self.new.building < self.old.used
+            → IsCompact self.new }
         ensures spare { SpareRises self.old self.new 0 1 }
         ensures bounded { IsBounded self.new }
     {

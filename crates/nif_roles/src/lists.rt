@@ -31,7 +31,8 @@ fn has_type_count(schema: &Schema, fields: &Fields) -> bool
 
 /// `Num Strings` stands at most once, of the basic `uint`, no array.
 fn has_string_count(schema: &Schema, fields: &Fields) -> bool
-    ensures { result ≡ is_once (codes "Num Strings") (λ f. is_of_basic schema.now (codes "uint") f && is_single f) (map field fields.now) }
+    ensures { result ≡ is_once (codes "Num Strings") (λ f. is_of_basic schema.now (codes "uint") f && is_single f)
+        (map field fields.now) }
 {
     match find_named(fields, b"Num Strings".as_slice()) {
         Named::No => true,
@@ -126,7 +127,8 @@ pub fn has_lists(schema: &Schema, fields: &Fields) -> bool
 }
 
 fn is_length(schema: &Schema, first: &Field) -> bool
-    ensures { result ≡ is_named (codes "Length") (field first.now) && (is_of_basic schema.now (codes "uint") (field first.now) && is_bare (field first.now)) }
+    ensures { result ≡ is_named (codes "Length") (field first.now)
+        && (is_of_basic schema.now (codes "uint") (field first.now) && is_bare (field first.now)) }
 {
     is_named(first, b"Length".as_slice())
         && is_of_basic(schema, b"uint".as_slice(), first)
@@ -134,7 +136,8 @@ fn is_length(schema: &Schema, first: &Field) -> bool
 }
 
 fn is_value(schema: &Schema, second: &Field) -> bool
-    ensures { result ≡ is_named (codes "Value") (field second.now) && (is_of_basic schema.now (codes "char") (field second.now)
+    ensures { result ≡ is_named (codes "Value") (field second.now)
+        && (is_of_basic schema.now (codes "char") (field second.now)
         && (is_bare_name (codes "Length") (field second.now).length && (is_plain (field second.now) && has_no_bounds (field second.now)))) }
 {
     is_named(second, b"Value".as_slice())
@@ -163,7 +166,8 @@ fn are_sized(schema: &Schema, fields: &Fields) -> bool
 
 /// Whether `Block Types` or `Strings` stands.
 fn has_sized(fields: &Fields) -> bool
-    ensures { result ≡ list_any (is_named (codes "Block Types")) (map field fields.now) || list_any (is_named (codes "Strings")) (map field fields.now) }
+    ensures { result ≡ list_any (is_named (codes "Block Types")) (map field fields.now)
+        || list_any (is_named (codes "Strings")) (map field fields.now) }
 {
     stands(fields, b"Block Types".as_slice()) || stands(fields, b"Strings".as_slice())
 }

@@ -25,7 +25,8 @@ pub fn has_line(schema: &Schema, fields: &Fields) -> bool
 }
 
 fn is_line(schema: &Schema, first: &Field) -> bool
-    ensures { result ≡ is_named (codes "Header String") (field first.now) && (is_of_basic schema.now (codes "HeaderString") (field first.now) && is_bare (field first.now)) }
+    ensures { result ≡ is_named (codes "Header String") (field first.now)
+        && (is_of_basic schema.now (codes "HeaderString") (field first.now) && is_bare (field first.now)) }
 {
     is_named(first, b"Header String".as_slice())
         && is_of_basic(schema, b"HeaderString".as_slice(), first)
@@ -90,7 +91,8 @@ fn has_user_version(schema: &Schema, fields: &Fields, name: &[u8]) -> bool
 fn has_bs_version(schema: &Schema, generic: &[bool], number: u32) -> bool
     requires within { number < length schema.now }
     requires generic_count { length generic.now ≡ length schema.now }
-    requires generic { (number : ℕ) → number < length schema.now → slice_get generic.now number ≡ Some (is_generic schema.now number) }
+    requires generic { (number : ℕ) → number < length schema.now
+        → slice_get generic.now number ≡ Some (is_generic schema.now number) }
     ensures { result ≡ has_bs_version schema.now number }
 {
     if !matches!(schema.decl(number).what, What::Struct) || generic[number as usize] {
@@ -106,7 +108,8 @@ fn has_bs_version(schema: &Schema, generic: &[bool], number: u32) -> bool
 #[tactic(auto, unfolding(nif_schema::specs::Roles::is_bs_header))]
 fn is_bs_header(schema: &Schema, generic: &[bool], of: &Field) -> bool
     requires generic_count { length generic.now ≡ length schema.now }
-    requires generic { (number : ℕ) → number < length schema.now → slice_get generic.now number ≡ Some (is_generic schema.now number) }
+    requires generic { (number : ℕ) → number < length schema.now
+        → slice_get generic.now number ≡ Some (is_generic schema.now number) }
     ensures { result ≡ is_bs_header schema.now (field of.now) }
 {
     match named(schema, &of.kind) {
@@ -118,7 +121,8 @@ fn is_bs_header(schema: &Schema, generic: &[bool], of: &Field) -> bool
 /// `BS Header` stands at most once, after `Version`, as a struct with a BS version.
 fn has_bs_header(schema: &Schema, generic: &[bool], fields: &Fields) -> bool
     requires generic_count { length generic.now ≡ length schema.now }
-    requires generic { (number : ℕ) → number < length schema.now → slice_get generic.now number ≡ Some (is_generic schema.now number) }
+    requires generic { (number : ℕ) → number < length schema.now
+        → slice_get generic.now number ≡ Some (is_generic schema.now number) }
     ensures { result ≡ is_once_behind (codes "BS Header") (is_bs_header schema.now) (map field fields.now) }
 {
     match find_named(fields, b"BS Header".as_slice()) {
@@ -135,7 +139,8 @@ fn has_bs_header(schema: &Schema, generic: &[bool], fields: &Fields) -> bool
 #[tactic(auto, unfolding(nif_schema::specs::Roles::has_user_versions))]
 pub fn has_user_versions(schema: &Schema, generic: &[bool], fields: &Fields) -> bool
     requires generic_count { length generic.now ≡ length schema.now }
-    requires generic { (number : ℕ) → number < length schema.now → slice_get generic.now number ≡ Some (is_generic schema.now number) }
+    requires generic { (number : ℕ) → number < length schema.now
+        → slice_get generic.now number ≡ Some (is_generic schema.now number) }
     ensures { result ≡ has_user_versions schema.now (map field fields.now) }
 {
     if !has_endian_type(schema, fields)
@@ -153,7 +158,8 @@ pub fn has_user_versions(schema: &Schema, generic: &[bool], fields: &Fields) -> 
 
 /// Whether `User Version 2` and `BS Header` both stand.
 fn has_both(fields: &Fields) -> bool
-    ensures { result ≡ list_any (is_named (codes "User Version 2")) (map field fields.now) && list_any (is_named (codes "BS Header")) (map field fields.now) }
+    ensures { result ≡ list_any (is_named (codes "User Version 2")) (map field fields.now)
+        && list_any (is_named (codes "BS Header")) (map field fields.now) }
 {
     stands(fields, b"User Version 2".as_slice()) && stands(fields, b"BS Header".as_slice())
 }

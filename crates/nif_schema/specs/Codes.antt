@@ -64,7 +64,8 @@ tree_inj (Two a b c) (Number a') p = absurd (apart 4 0 p (omega arith))
 tree_inj (Two a b c) Arg p = absurd (apart 4 1 p (omega arith))
 tree_inj (Two a b c) (Path a') p = absurd (apart 4 2 p (omega arith))
 tree_inj (Two a b c) (Not a') p = absurd (apart 4 3 p (omega arith))
-tree_inj (Two a b c) (Two a' b' c') p = λ i. Two (operator.the_row.coded.inj a a' (ap (λ g. head (tail g)) p) i) (tree_inj b b' (ap (λ g. head (tail (tail g))) p) i) (tree_inj c c' (ap (λ g. tail (tail (tail g))) p) i)
+tree_inj (Two a b c) (Two a' b' c') p = λ i. Two (operator.the_row.coded.inj a a' (ap (λ g. head (tail g)) p) i)
+    (tree_inj b b' (ap (λ g. head (tail (tail g))) p) i) (tree_inj c c' (ap (λ g. tail (tail (tail g))) p) i)
 
 abbrev pub coded_tree : Coded Tree
 coded_tree = record { code = tree_code; inj = tree_inj }
@@ -86,9 +87,33 @@ coded_formula = code_by (Unit {0} ⊎ Tree) (coded⊎ coded_unit coded_tree) for
 
 abbrev pub coded_field : Coded Field
 coded_field =
-    code_by (Name × (Name × (Option Name × (Option Formula × (Option Formula × (Option Formula × (Option Formula × (Option Formula × (Option Bound × (Option Bound × (Option Exact × (Option Exact × (Option Name × Option Name)))))))))))))
-    (coded× coded_name (coded× coded_name (coded× (coded_option coded_name) (coded× (coded_option coded_formula) (coded× (coded_option coded_formula) (coded× (coded_option coded_formula) (coded× (coded_option coded_formula) (coded× (coded_option coded_formula) (coded× (coded_option bound.the_row.coded) (coded× (coded_option bound.the_row.coded) (coded× (coded_option exact.the_row.coded) (coded× (coded_option exact.the_row.coded) (coded× (coded_option coded_name) (coded_option coded_name))))))))))))))
-    (λ f. (f.name, (f.kind, (f.template, (f.arg, (f.length, (f.width, (f.cond, (f.vercond, (f.since, (f.until, (f.user, (f.bs, (f.only, f.exclude))))))))))))))
+    code_by (Name × (Name × (Option Name × (Option Formula
+    × (Option Formula × (Option Formula × (Option Formula
+    × (Option Formula × (Option Bound × (Option Bound
+    × (Option Exact × (Option Exact × (Option Name × Option Name)))))))))))))
+    (coded× coded_name (coded× coded_name (coded× (coded_option coded_name)
+    (coded× (coded_option coded_formula) (coded× (coded_option coded_formula)
+    (coded× (coded_option coded_formula) (coded× (coded_option coded_formula)
+    (coded× (coded_option coded_formula) (coded× (coded_option bound.the_row.coded)
+    (coded× (coded_option bound.the_row.coded) (coded× (coded_option exact.the_row.coded)
+    (coded× (coded_option exact.the_row.coded) (coded× (coded_option coded_name)
+    (coded_option coded_name))))))))))))))
+    (λ f. (
+      f.name,
+      (
+        f.kind,
+        (
+          f.template,
+          (
+            f.arg,
+            (
+              f.length,
+              (f.width, (f.cond, (f.vercond, (f.since, (f.until, (f.user, (f.bs, (f.only, f.exclude)))))))),
+            ),
+          ),
+        ),
+      ),
+    ))
     (λ t. record { name = t.0; kind = t.1.0; template = t.1.1.0; arg = t.1.1.1.0; length = t.1.1.1.1.0; width = t.1.1.1.1.1.0; cond = t.1.1.1.1.1.1.0; vercond = t.1.1.1.1.1.1.1.0; since = t.1.1.1.1.1.1.1.1.0; until = t.1.1.1.1.1.1.1.1.1.0; user = t.1.1.1.1.1.1.1.1.1.1.0; bs = t.1.1.1.1.1.1.1.1.1.1.1.0; only = t.1.1.1.1.1.1.1.1.1.1.1.1.0; exclude = t.1.1.1.1.1.1.1.1.1.1.1.1.1 }) (λ _. refl)
 
 abbrev pub coded_declaration : Coded Declaration

@@ -74,7 +74,9 @@ has_names schema number _ = false
 
 -- what may stand before another name of a path
 abbrev pub goes_on : Schema → Meaning → Bool
-goes_on schema (OfField f) = is_none f.length && option_map_or (λ number. option_map_or (has_names schema number) (what_at schema number) false) (named schema f.kind) false
+goes_on schema (OfField f) = is_none f.length
+    && option_map_or (λ number. option_map_or (has_names schema number) (what_at schema number) false)
+    (named schema f.kind) false
 goes_on schema OfBits = false
 
 abbrev pub fields_named : Name → List Field → List Meaning
@@ -91,7 +93,8 @@ inside_type schema name number _ = []
 
 abbrev pub inside : Schema → Name → Meaning → List Meaning
 inside schema name (OfField f) =
-    option_map_or (λ number. option_map_or (inside_type schema name number) (what_at schema number) []) (named schema f.kind) []
+    option_map_or (λ number. option_map_or (inside_type schema name number) (what_at schema number) [])
+    (named schema f.kind) []
 inside schema name OfBits = []
 
 abbrev pub is_empty : {X : Type 0} → List X → Bool
@@ -110,7 +113,8 @@ rest_reason schema meanings (name ∷ names) =
 
 -- The names of the header, which stand where no earlier field has the first name.
 unfoldable pub is_header_path : List Name → Bool
-is_header_path (first ∷ []) = bytes_eq first (codes "Version") || (bytes_eq first (codes "User Version") || bytes_eq first (codes "User Version 2"))
+is_header_path (first ∷ []) = bytes_eq first (codes "Version")
+    || (bytes_eq first (codes "User Version") || bytes_eq first (codes "User Version 2"))
 is_header_path (first ∷ second ∷ []) = bytes_eq first (codes "BS Header") && bytes_eq second (codes "BS Version")
 is_header_path _ = false
 

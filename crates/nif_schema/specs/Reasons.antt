@@ -85,7 +85,8 @@ abbrev pub template_reason : Schema → Bool → Field → Option Closed
 template_reason schema in_struct f =
     option_map_or (λ number.
     if is_generic schema number then generic_template_reason schema in_struct f.template
-    else if option_map_or is_reference (what_at schema number) false then reference_template_reason schema in_struct f.template
+    else if option_map_or is_reference (what_at schema number) false
+    then reference_template_reason schema in_struct f.template
     else None) (named schema f.kind) None
 
 -- C11: `since` or `until` is no version
@@ -116,7 +117,8 @@ bare_width_reason schema fields =
 -- A bare name that an earlier field declares is looked at by C9 alone.
 abbrev pub width_reason : Schema → List Field → Option Formula → Option Closed
 width_reason schema earlier (Some (Read (Path (name ∷ [])))) =
-    if list_any (λ f. bytes_eq name f.name) earlier then bare_width_reason schema (filter (λ f. bytes_eq name f.name) earlier)
+    if list_any (λ f. bytes_eq name f.name) earlier
+    then bare_width_reason schema (filter (λ f. bytes_eq name f.name) earlier)
     else formula_reason schema earlier (Some (Read (Path (name ∷ []))))
 width_reason schema earlier width = formula_reason schema earlier width
 
@@ -144,7 +146,8 @@ field_reason schema in_struct earlier f = first_reason (
 abbrev pub fields_reason : Schema → Bool → List Field → List Field → Option Closed
 fields_reason schema in_struct earlier [] = None
 fields_reason schema in_struct earlier (f ∷ fields) =
-    first_reason (field_reason schema in_struct earlier f ∷ fields_reason schema in_struct (earlier ++ f ∷ []) fields ∷ [])
+    first_reason (field_reason schema in_struct earlier f ∷ fields_reason schema in_struct
+    (earlier ++ f ∷ []) fields ∷ [])
 
 -- the fields of the ancestors of a declaration, which stand before its own on its line
 abbrev pub line_above : Schema → ℕ → List Field

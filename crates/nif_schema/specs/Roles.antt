@@ -171,7 +171,8 @@ pub record HasRoots (schema : Schema) : Type 0 where
 -- 2. Header begins with `Header String` of the basic `HeaderString`, with no other attribute.
 unfoldable pub has_line : Schema → List Field → Bool
 has_line schema fields = option_map_or (λ f.
-    is_named (codes "Header String") f && (is_of_basic schema (codes "HeaderString") f && is_bare f)) (slice_get fields 0) false
+    is_named (codes "Header String") f && (is_of_basic schema (codes "HeaderString") f && is_bare f))
+    (slice_get fields 0) false
 
 -- 3. Header has one `Version` of the basic `FileVersion`, present in all accepted versions, with no other attribute
 -- than `since` and `until`. What stands behind the line and before it is present in no accepted version.
@@ -199,7 +200,8 @@ abbrev pub has_bs_version : Schema → ℕ → Bool
 has_bs_version schema number =
     option_map_or is_struct (what_at schema number) false
     && (not (is_generic schema number)
-    && is_one (λ f. is_of_basic schema (codes "ulittle32") f && not (is_array f)) (of_name (codes "BS Version") (fields_of schema number)))
+    && is_one (λ f. is_of_basic schema (codes "ulittle32") f && not (is_array f))
+    (of_name (codes "BS Version") (fields_of schema number)))
 
 unfoldable pub is_bs_header : Schema → Field → Bool
 is_bs_header schema f = option_map_or (has_bs_version schema) (named schema f.kind) false
@@ -273,7 +275,8 @@ has_sized_strings schema fields =
 -- asked.
 abbrev pub is_counted : Name → Bool
 is_counted name =
-    bytes_eq name (codes "Num Blocks") || (bytes_eq name (codes "Num Block Types") || (bytes_eq name (codes "Num Strings")
+    bytes_eq name (codes "Num Blocks") || (bytes_eq name (codes "Num Block Types")
+    || (bytes_eq name (codes "Num Strings")
     || (bytes_eq name (codes "Block Type Index") || bytes_eq name (codes "Block Size"))))
 
 abbrev pub begins_counted : List Name → Bool
@@ -287,7 +290,8 @@ names_counted (Some (Read of)) = list_any begins_counted (paths_of of)
 
 abbrev pub has_own_length : Field → Bool
 has_own_length f =
-    is_named (codes "Block Types") f || (is_named (codes "Strings") f || (is_named (codes "Block Type Index") f || is_named (codes "Block Size") f))
+    is_named (codes "Block Types") f || (is_named (codes "Strings") f
+    || (is_named (codes "Block Type Index") f || is_named (codes "Block Size") f))
 
 abbrev pub is_independent : Field → Bool
 is_independent f =

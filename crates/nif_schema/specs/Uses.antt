@@ -46,7 +46,8 @@ named_template schema f = option_and_then (named schema) f.template
 -- A field uses its type and, where that is a generic struct, its template.
 abbrev pub uses_of_field : Schema → Field → List ℕ
 uses_of_field schema f =
-    option_map_or (λ kind. option_to_list (Some kind) ++ (if is_generic schema kind then option_to_list (named_template schema f) else [])) (named schema f.kind) []
+    option_map_or (λ kind. option_to_list (Some kind)
+    ++ (if is_generic schema kind then option_to_list (named_template schema f) else [])) (named schema f.kind) []
 
 -- A type uses its parent and what its own fields use.
 unfoldable pub uses : Schema → ℕ → List ℕ

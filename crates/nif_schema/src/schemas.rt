@@ -55,7 +55,8 @@ impl Schema {
         requires room { length self.old < 2 ^ 32 - 1 }
         requires leaf { HasItsLeaf (declaration decl) }
         ensures added { IfOk result (λ is_new. IsTrue is_new ↔ (find self.old decl.name ≡ None)) }
-        ensures schema { IfOk result (λ is_new. MatchBool is_new (self.new ≡ self.old ++ declaration decl ∷ []) (self.new ≡ self.old)) }
+        ensures schema { IfOk result (λ is_new. MatchBool is_new (self.new ≡ self.old ++ declaration decl ∷ [])
+            (self.new ≡ self.old)) }
         ensures err { OnErr result (self.new ≡ self.old) }
     {
         if self.find(decl.name.bytes()).is_some() {

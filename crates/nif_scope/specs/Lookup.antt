@@ -29,7 +29,8 @@ pub record Member : Type 0 where
 
 -- this member, where it has the name and is present, else what was found before it
 abbrev pub later_told : Name → Field → Entry → List Entry → Option Member → Option Member
-later_told name f e own got = if bytes_eq name f.name && is_here e then Some (record { field = f; entry = e; own = own }) else got
+later_told name f e own got = if bytes_eq name f.name && is_here e
+    then Some (record { field = f; entry = e; own = own }) else got
 
 -- The last member of a name that is present, behind one that was found before.
 abbrev pub last_told : Name → Option Member → List Field → List Entry → Option Member
@@ -74,7 +75,8 @@ told_at (Some m) = At m
 
 -- the bits of the first member of a bitfield of a name
 abbrev pub bits_named : Name → ℕ → List BitMember → Option ℕ
-bits_named name bits members = option_map (λ member. member_bits bits member) (list.find (λ (member : BitMember). bytes_eq name member.name) members)
+bits_named name bits members = option_map (λ member. member_bits bits member)
+    (list.find (λ (member : BitMember). bytes_eq name member.name) members)
 
 abbrev pub bits_inside : Schema → Name → Field → ℕ → Option ℕ
 bits_inside schema name f bits = bits_named name bits (bits_in schema f)
@@ -106,7 +108,8 @@ follow_told schema at (name ∷ names) = follow_told schema (step_told schema na
 abbrev pub path_told : Schema → Context → List Field → List Entry → List Name → Option ℕ
 path_told schema C fields entries [] = None
 path_told schema C fields entries (name ∷ names) =
-    if name_told name fields entries then Some (follow_told schema (told_at (last_told name None fields entries)) names) else header_value C (name ∷ names)
+    if name_told name fields entries then Some (follow_told schema (told_at (last_told name None fields entries)) names)
+    else header_value C (name ∷ names)
 
 -- the number of item i of an array whose items are kept, 0 where there is no such item
 abbrev pub item_value : Bool → ℕ → Entry → List Entry → ℕ

@@ -30,7 +30,8 @@ present_by schema C value f =
 -- what one value of a field is
 abbrev pub kind_by : Schema → Context → Option ℕ → (Formula → ℕ) → Field → Kind
 kind_by schema C template value f =
-    option_map_or (λ number. kind_of schema C number (option_and_then (replaced schema template) f.template) (option_map_or value f.arg 0))
+    option_map_or (λ number. kind_of schema C number (option_and_then (replaced schema template) f.template)
+    (option_map_or value f.arg 0))
     (replaced schema template f.kind) Unknown
 
 -- an array of the type of a field is a run of bytes

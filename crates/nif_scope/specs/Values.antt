@@ -40,12 +40,14 @@ bare_name _ = None
 
 -- the array that a `width` is the bare name of
 abbrev pub array_at : Setting → List Entry → Formula → Option Name
-array_at at entries width = option_and_then (λ name. if array_told name false (line at.schema.now at.number) entries then Some name else None) (bare_name width)
+array_at at entries width = option_and_then (λ name. if array_told name false (line at.schema.now at.number) entries
+    then Some name else None) (bare_name width)
 
 -- item i of the last present member of a name, 0 where there is none
 abbrev pub item_at : Setting → List Entry → ℕ → Name → ℕ
 item_at at entries i name =
-    option_map_or (λ m. item_value (is_signed at.schema.now m.field) i m.entry m.own) (last_told name None (line at.schema.now at.number) entries) 0
+    option_map_or (λ m. item_value (is_signed at.schema.now m.field) i m.entry m.own)
+    (last_told name None (line at.schema.now at.number) entries) 0
 
 -- the length of row i: item i of the array that `width` is the bare name of, else the value of `width`
 abbrev pub row_width : Setting → List Entry → Formula → ℕ → ℕ

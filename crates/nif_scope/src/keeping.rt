@@ -79,7 +79,8 @@ fn tell_without_items(entries: &mut Vec<Entry>, inner: &[Entry]) -> Result<(), N
 
 /// Puts what is kept of a group behind the others: `inner` is what was kept of its members while they were read.
 pub fn tell_group(entries: &mut Vec<Entry>, inner: &[Entry]) -> Result<(), NoMemory>
-    ensures { OnOk result (entries.new.items ≡ entries.old.items ++ entry.Group (length (without_items 0 inner.now)) ∷ without_items 0 inner.now) }
+    ensures { OnOk result (entries.new.items ≡ entries.old.items
+        ++ entry.Group (length (without_items 0 inner.now)) ∷ without_items 0 inner.now) }
 {
     let count = count_without_items(inner);
     match tell(entries, Entry::Group { entries: count }) {

@@ -24,7 +24,8 @@ fn bool_width(context: &ValueContext) -> u8
 
 /// What a value of a basic is.
 fn kind_of_leaf(context: &ValueContext, template: Option<u32>, leaf: Leaf) -> Kind
-    ensures value { (schema : Schema) → kind_of schema result ≡ spec.kind_of_leaf (context_of context.now) template leaf }
+    ensures value { (schema : Schema) → kind_of schema result
+        ≡ spec.kind_of_leaf (context_of context.now) template leaf }
     ensures known { (schema : Schema) → IsReadable leaf → IsKnown schema result }
 {
     match leaf {

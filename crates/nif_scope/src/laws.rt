@@ -20,21 +20,24 @@ pub fn tells_none()
 
 /// What is kept grows by what is kept of the next member.
 pub fn tells_more()
-    ensures { (at : Setting) (entries : List Entry) (members : Members) (before : List Field) (f : Field) (after : List Field) (got : Option Node)
+    ensures { (at : Setting) (entries : List Entry) (members : Members) (before : List Field) (f : Field)
+        (after : List Field) (got : Option Node)
         → line at.schema.now at.number ≡ before ++ f ∷ after → AreFor before members → Tells at entries members
         → Tells at (entries ++ got_told (asks at.schema.now at.number f) got) (added members got) }
 {}
 
 /// The earlier fields grow by the next one.
 pub fn earlier_more()
-    ensures { (at : Setting) (members : Members) (before : List Field) (f : Field) (after : List Field) (got : Option Node)
+    ensures { (at : Setting) (members : Members) (before : List Field) (f : Field) (after : List Field)
+        (got : Option Node)
         → line at.schema.now at.number ≡ before ++ f ∷ after → AreFor before members
         → earlier at (added members got) ≡ behind f got (earlier at members) }
 {}
 
 /// With the next member there is one for each field up to its own.
 pub fn for_more()
-    ensures { (before : List Field) (f : Field) (members : Members) (got : Option Node) → AreFor before members → AreFor (before ++ f ∷ []) (added members got) }
+    ensures { (before : List Field) (f : Field) (members : Members) (got : Option Node) → AreFor before members
+        → AreFor (before ++ f ∷ []) (added members got) }
 {}
 
 /// Of a member that isn't an array the same is kept, whether its items are asked for or not.
@@ -44,6 +47,7 @@ pub fn single_told()
 
 /// What is kept of a group is what was kept of its members, without the items of arrays.
 pub fn group_told()
-    ensures { (at : Setting) (entries : List Entry) (members : Members) → AreFor (line at.schema.now at.number) members → Tells at entries members
+    ensures { (at : Setting) (entries : List Entry) (members : Members) → AreFor (line at.schema.now at.number) members
+        → Tells at entries members
         → entry.Group (length (without_items 0 entries)) ∷ without_items 0 entries ≡ told (node.Group members) }
 {}

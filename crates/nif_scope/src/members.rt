@@ -76,7 +76,8 @@ fn later<'a>(
     entry: Entry,
     own: &'a [Entry],
 ) -> Option<Member<'a>>
-    ensures { option_map member_of result ≡ later_told name.now (spec.field field.now) entry own.now (option_map member_of found.entry) }
+    ensures { option_map member_of result ≡ later_told name.now (spec.field field.now) entry own.now
+        (option_map member_of found.entry) }
 {
     if name == field.name.bytes() && entry.is_here() {
         return Some(Member { field, entry, own });
@@ -125,7 +126,8 @@ pub(crate) fn name_told(schema: &Schema, number: u32, name: &[u8], entries: &[En
 
 /// Whether the last member of a name is an array, after one more member.
 fn later_array(name: &[u8], found: bool, field: &Field) -> bool
-    ensures { result ≡ (if bytes_eq name.now (spec.field field.now).name then is_some (spec.field field.now).length else found) }
+    ensures { result ≡ (if bytes_eq name.now (spec.field field.now).name then is_some (spec.field field.now).length
+        else found) }
 {
     if name == field.name.bytes() {
         return field.length.is_some();

@@ -22,7 +22,8 @@ use nif_schema::{Field, Formula, Path};
 /// The value of a path, or none. In an open type each path has one.
 pub fn path_value(at: &Setting<'_>, entries: &[Entry], path: &Path) -> Option<u64>
     requires { IsSetting at.now }
-    ensures { (members : Members) → Tells at.now entries.now members → result ≡ path_value at.now.schema.now (context_in at.now) (earlier at.now members) path.now }
+    ensures { (members : Members) → Tells at.now entries.now members
+        → result ≡ path_value at.now.schema.now (context_in at.now) (earlier at.now members) path.now }
 {
     path_told(at, entries, path)
 }
@@ -30,7 +31,9 @@ pub fn path_value(at: &Setting<'_>, entries: &[Entry], path: &Path) -> Option<u6
 /// The value of an attribute.
 pub fn formula_value(at: &Setting<'_>, entries: &[Entry], of: &Formula) -> u64
     requires { IsSetting at.now }
-    ensures { (members : Members) → Tells at.now entries.now members → result ≡ formula_value at.now.schema.now (context_in at.now) (earlier at.now members) at.now.arg (formula of.now) }
+    ensures { (members : Members) → Tells at.now entries.now members
+        → result ≡ formula_value at.now.schema.now (context_in at.now) (earlier at.now members) at.now.arg
+        (formula of.now) }
 {
     formula_at(at, entries, of)
 }
@@ -39,7 +42,8 @@ pub fn formula_value(at: &Setting<'_>, entries: &[Entry], of: &Formula) -> u64
 pub fn is_present(at: &Setting<'_>, entries: &[Entry], of: &Field) -> bool
     requires setting { IsSetting at.now }
     requires field { IsField at.now (field of.now) }
-    ensures { (members : Members) → Tells at.now entries.now members → result ≡ present at.now.schema.now (context_in at.now) at.now.arg (earlier at.now members) (field of.now) }
+    ensures { (members : Members) → Tells at.now entries.now members
+        → result ≡ present at.now.schema.now (context_in at.now) at.now.arg (earlier at.now members) (field of.now) }
 {
     present(at, entries, of)
 }
@@ -50,7 +54,8 @@ pub fn form_of(at: &Setting<'_>, entries: &[Entry], of: &Field) -> (Kind, Size)
     requires field { IsField at.now (field of.now) }
     ensures known { IsKnown at.now.schema.now result.0 }
     ensures form { (members : Members) → Tells at.now entries.now members
-        → form_of at.now.schema.now (context_in at.now) at.now.template at.now.arg (earlier at.now members) (field of.now)
+        → form_of at.now.schema.now (context_in at.now) at.now.template at.now.arg (earlier at.now members)
+        (field of.now)
         ≡ form_of_size (kind_of at.now.schema.now result.0) (width_of (width_at at.now.schema.now (context_in at.now) (earlier at.now members) at.now.arg) (field of.now).width) result.1 }
 {
     let kind = kind_at(at, entries, of);
@@ -62,7 +67,8 @@ pub fn width_at(at: &Setting<'_>, entries: &[Entry], of: &Field, row: u64) -> u6
     requires setting { IsSetting at.now }
     requires field { IsField at.now (field of.now) }
     ensures { (members : Members) → Tells at.now entries.now members
-        → result ≡ width_of (width_at at.now.schema.now (context_in at.now) (earlier at.now members) at.now.arg) (field of.now).width row }
+        → result ≡ width_of (width_at at.now.schema.now (context_in at.now) (earlier at.now members) at.now.arg)
+        (field of.now).width row }
 {
     row_at(at, entries, of, row)
 }

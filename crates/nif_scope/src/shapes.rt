@@ -54,7 +54,8 @@ fn arg_of(at: &Setting<'_>, entries: &[Entry], of: &Field) -> u64
 pub(crate) fn kind_at(at: &Setting<'_>, entries: &[Entry], of: &Field) -> Kind
     requires setting { IsSetting at.now }
     requires field { IsField at.now (field of.now) }
-    ensures value { kind_of at.now.schema.now result ≡ kind_by at.now.schema.now (context_in at.now) at.now.template (formula_at at.now entries.now) (field of.now) }
+    ensures value { kind_of at.now.schema.now result
+        ≡ kind_by at.now.schema.now (context_in at.now) at.now.template (formula_at at.now entries.now) (field of.now) }
     ensures known { IsKnown at.now.schema.now result }
 {
     let template = replaced_template(at.schema, at.template, of);
@@ -103,7 +104,8 @@ fn is_run_at(at: &Setting<'_>, of: &Field) -> bool
 pub(crate) fn size_at(at: &Setting<'_>, entries: &[Entry], of: &Field) -> Size
     requires setting { IsSetting at.now }
     requires field { IsField at.now (field of.now) }
-    ensures { (kind : kinds.Kind) (width : plain.Formula → ℕ → ℕ) → form_of_size kind (width_of width (field of.now).width) result
+    ensures { (kind : kinds.Kind) (width : plain.Formula → ℕ → ℕ)
+        → form_of_size kind (width_of width (field of.now).width) result
         ≡ spec.sized (option_map (formula_at at.now entries.now) (field of.now).length) (option_map width (field of.now).width) (is_run_by at.now.schema.now at.now.template (field of.now)) kind }
 {
     let Some(length) = &of.length else {

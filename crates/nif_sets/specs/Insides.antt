@@ -38,11 +38,13 @@ pub record Means (tables : List Table) (name types : List ℕ) (numbers inner : 
 -- what a name means in all types of a set, or None where one of them lacks it
 abbrev pub IsInside : List Table → Sets → TypeSet → List ℕ → Option Inside → Type 0
 IsInside tables sets set name None = is_lacking tables name (types_of sets set) ≡ true
-IsInside tables sets set name (Some inside) = Means tables name (types_of sets set) inside.numbers inside.inner (types_of sets inside.set)
+IsInside tables sets set name (Some inside) =
+    Means tables name (types_of sets set) inside.numbers inside.inner (types_of sets inside.set)
 
 -- Whatever is known is so.
 abbrev pub AreKnown : List Table → Sets → Type 0
-AreKnown tables sets = (known : Known) → Contains sets.known known → IsInside tables sets known.set known.name known.answer
+AreKnown tables sets =
+    (known : Known) → Contains sets.known known → IsInside tables sets known.set known.name known.answer
 
 -- what a name means in all of these types, or None where one of them lacks it
 abbrev pub IsMeaning : List Table → List ℕ → List ℕ → Option Meaning → Type 0

@@ -11,11 +11,14 @@ plain_known entry = record { set = entry.0.set; name = entry.0.name.items; answe
 
 -- The parts of each joined set are single types or were joined before it.
 abbrev pub AreBefore : List (List TypeSet) → Type 0
-AreBefore parts = (place : ℕ) (own : List TypeSet) (part : TypeSet) → slice_get parts place ≡ Some own → Contains own part → IsBelow place part
+AreBefore parts =
+    (place : ℕ) (own : List TypeSet) (part : TypeSet) → slice_get parts place ≡ Some own → Contains own part
+    → IsBelow place part
 
 -- Known answers are of sets that are there, and have sets that are there.
 abbrev pub AreWithin : ℕ → List Known → Type 0
-AreWithin count known = (k : Known) → Contains known k → IsBelow count k.set × IfSome k.answer (λ inside. IsBelow count inside.set)
+AreWithin count known =
+    (k : Known) → Contains known k → IsBelow count k.set × IfSome k.answer (λ inside. IsBelow count inside.set)
 
 pub record IsKept (parts : List (List TypeSet)) (known : List Known) (count : ℕ) : Type 0 where
   pub before : AreBefore parts

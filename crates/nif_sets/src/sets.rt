@@ -113,7 +113,8 @@ impl Sets {
     pub fn join(&mut self, sets: &[TypeSet]) -> Result<TypeSet, NoMemory>
         requires { All (IsSet self.old) sets.now }
         ensures within { IfOk result (IsSet self.new) }
-        ensures types { IfOk result (λ set. (number : ℕ) → Contains (types_of self.new set) number ↔ Contains (flat_map (types_of self.old) sets.now) number) }
+        ensures types { IfOk result (λ set. (number : ℕ) → Contains (types_of self.new set) number
+            ↔ Contains (flat_map (types_of self.old) sets.now) number) }
         ensures grown { OnOk result (IsGrown self.old self.new) }
         ensures known { OnOk result ((tables : List Table) → AreKnown tables self.old → AreKnown tables self.new) }
     {
@@ -127,7 +128,8 @@ impl Sets {
     /// The set of these types.
     pub fn of_types(&mut self, types: &[u32]) -> Result<TypeSet, NoMemory>
         ensures within { IfOk result (IsSet self.new) }
-        ensures types { IfOk result (λ set. (number : ℕ) → Contains (types_of self.new set) number ↔ Contains types.now number) }
+        ensures types { IfOk result (λ set. (number : ℕ) → Contains (types_of self.new set) number
+            ↔ Contains types.now number) }
         ensures grown { OnOk result (IsGrown self.old self.new) }
         ensures known { OnOk result ((tables : List Table) → AreKnown tables self.old → AreKnown tables self.new) }
     {
@@ -161,7 +163,8 @@ impl Sets {
     ) -> Result<Option<Inside>, NoMemory>
         requires { IsSet self.old set }
         ensures within { IfOk result (IsWithin self.new) }
-        ensures inside { IfOk result (λ answer. AreKnown tables.now self.old → IsInside tables.now self.new set name.now answer) }
+        ensures inside { IfOk result (λ answer. AreKnown tables.now self.old
+            → IsInside tables.now self.new set name.now answer) }
         ensures grown { OnOk result (IsGrown self.old self.new) }
         ensures known { OnOk result (AreKnown tables.now self.old → AreKnown tables.now self.new) }
     {
@@ -188,7 +191,8 @@ impl Sets {
     ) -> Result<Option<Inside>, NoMemory>
         requires { IsSet self.old set }
         ensures within { IfOk result (IsWithin self.new) }
-        ensures inside { IfOk result (λ answer. AreKnown tables.now self.old → IsInside tables.now self.new set name.now answer) }
+        ensures inside { IfOk result (λ answer. AreKnown tables.now self.old
+            → IsInside tables.now self.new set name.now answer) }
         ensures grown { OnOk result (IsGrown self.old self.new) }
         ensures known { OnOk result (AreKnown tables.now self.old → AreKnown tables.now self.new) }
     {
@@ -208,7 +212,8 @@ impl Sets {
     ) -> Result<Option<Inside>, NoMemory>
         requires { number < length self.old.parts }
         ensures within { IfOk result (IsWithin self.new) }
-        ensures inside { IfOk result (λ answer. AreKnown tables.now self.old → IsInside tables.now self.new (Joined number) name.now answer) }
+        ensures inside { IfOk result (λ answer. AreKnown tables.now self.old
+            → IsInside tables.now self.new (Joined number) name.now answer) }
         ensures grown { OnOk result (IsGrown self.old self.new) }
         ensures known { OnOk result (AreKnown tables.now self.old → AreKnown tables.now self.new) }
     {
@@ -248,7 +253,8 @@ impl Sets {
         name: &[u8],
     ) -> Result<Option<Inside>, NoMemory>
         ensures within { IfOk result (IsWithin self.new) }
-        ensures inside { IfOk result (λ answer. AreKnown tables.now self.old → IsInside tables.now self.new (One number) name.now answer) }
+        ensures inside { IfOk result (λ answer. AreKnown tables.now self.old
+            → IsInside tables.now self.new (One number) name.now answer) }
         ensures grown { OnOk result (IsGrown self.old self.new) }
         ensures known { OnOk result (AreKnown tables.now self.old → AreKnown tables.now self.new) }
     {
@@ -286,7 +292,8 @@ impl Sets {
         requires within { IsWithin self.old answer }
         ensures same { IfOk result (λ given. given ≡ answer) }
         ensures parts { self.new.parts ≡ self.old.parts }
-        ensures known { OnOk result ((known : Known) → Contains self.new.known known → Contains self.old.known known ⊎ (known ≡ plain_known (key, answer))) }
+        ensures known { OnOk result ((known : Known) → Contains self.new.known known → Contains self.old.known known
+            ⊎ (known ≡ plain_known (key, answer))) }
         ensures err { OnErr result (self.new ≡ self.old) }
     {
         let Some(size) = self.size.checked_add(key.name.len() as u64 + 1) else {
@@ -318,7 +325,8 @@ impl Sets {
     /// Puts the types in a set to those that are gathered, if it is kept as its types and these are few.
     fn gather(&self, flat: &mut IndexSet<TypeSet>, set: TypeSet) -> Result<bool, NoMemory>
         requires { IsSet self.now set }
-        ensures { IfOk result (λ added. IsTrue added → (sets : List TypeSet) → IsLike self.now flat.old.keys sets → IsLike self.now flat.new.keys (sets ++ set ∷ [])) }
+        ensures { IfOk result (λ added. IsTrue added → (sets : List TypeSet) → IsLike self.now flat.old.keys sets
+            → IsLike self.now flat.new.keys (sets ++ set ∷ [])) }
     {
         match set {
             TypeSet::One { .. } => match distinct::add_all(flat, &[set]) {
@@ -361,7 +369,8 @@ impl Sets {
     fn join_parts(&mut self, sets: &[TypeSet]) -> Result<TypeSet, NoMemory>
         requires { All (IsSet self.old) sets.now }
         ensures within { IfOk result (IsSet self.new) }
-        ensures types { IfOk result (λ set. (number : ℕ) → Contains (types_of self.new set) number ↔ Contains (flat_map (types_of self.old) sets.now) number) }
+        ensures types { IfOk result (λ set. (number : ℕ) → Contains (types_of self.new set) number
+            ↔ Contains (flat_map (types_of self.old) sets.now) number) }
         ensures grown { OnOk result (IsGrown self.old self.new) }
         ensures known { OnOk result ((tables : List Table) → AreKnown tables self.old → AreKnown tables self.new) }
     {
@@ -375,7 +384,8 @@ impl Sets {
     fn keep(&mut self, sets: &[TypeSet]) -> Result<TypeSet, NoMemory>
         requires { All (IsSet self.old) sets.now }
         ensures within { IfOk result (IsSet self.new) }
-        ensures types { IfOk result (λ set. (number : ℕ) → Contains (types_of self.new set) number ↔ Contains (flat_map (types_of self.old) sets.now) number) }
+        ensures types { IfOk result (λ set. (number : ℕ) → Contains (types_of self.new set) number
+            ↔ Contains (flat_map (types_of self.old) sets.now) number) }
         ensures grown { OnOk result (IsGrown self.old self.new) }
         ensures known { OnOk result ((tables : List Table) → AreKnown tables self.old → AreKnown tables self.new) }
     {

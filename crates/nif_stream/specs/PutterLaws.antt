@@ -29,7 +29,8 @@ adds_none grew a z e = λ start all h. subst (λ l. HasPut grew start a l) (sym 
 pub adds_joined : {K : Type 0} (grew : K → List ℕ → K → Type 0) (a b c : Putter K) (x y z : List ℕ) → Adds grew a x b
     → Adds grew b y c → x ++ y ≡ z → Adds grew a z c
 unfolding Adds
-adds_joined grew a b c x y z p q e = λ start all h. subst (λ l. HasPut grew start c l) (append_assoc all x y ∙ ap (λ l. all ++ l) e) (q start (all ++ x) (p start all h))
+adds_joined grew a b c x y z p q e = λ start all h. subst (λ l. HasPut grew start c l)
+    (append_assoc all x y ∙ ap (λ l. all ++ l) e) (q start (all ++ x) (p start all h))
 
 -- the same, where the whole is not named
 pub adds_append : {K : Type 0} (grew : K → List ℕ → K → Type 0) (a b c : Putter K) (x y : List ℕ) → Adds grew a x b
@@ -40,7 +41,8 @@ adds_append grew a b c x y p q = adds_joined grew a b c x y (x ++ y) p q refl
 pub adds_part : {K : Type 0} (grew : K → List ℕ → K → Type 0) (a b c : Putter K) (x y z : List ℕ) → Adds grew a x b
     → AddsPart grew b y c → x ++ y ≡ z → AddsPart grew a z c
 unfolding Adds AddsPart
-adds_part grew a b c x y z p q e = λ start all h. subst (λ l. HasTaken grew start c.sink.now l) (append_assoc all x y ∙ ap (λ l. all ++ l) e) (q start (all ++ x) (p start all h))
+adds_part grew a b c x y z p q e = λ start all h. subst (λ l. HasTaken grew start c.sink.now l)
+    (append_assoc all x y ∙ ap (λ l. all ++ l) e) (q start (all ++ x) (p start all h))
 
 -- the same, where the whole is not named
 pub adds_part_append : {K : Type 0} (grew : K → List ℕ → K → Type 0) (a b c : Putter K) (x y : List ℕ)
@@ -51,12 +53,14 @@ adds_part_append grew a b c x y p q = adds_part grew a b c x y (x ++ y) p q refl
 pub part_before : {K : Type 0} (grew : K → List ℕ → K → Type 0) (a b : Putter K) (x y z : List ℕ)
     → AddsPart grew a x b → x ++ y ≡ z → AddsPart grew a z b
 unfolding AddsPart
-part_before grew a b x y z p e = λ start all h. taken_more grew start b.sink.now (all ++ x) y (all ++ z) (p start all h) (append_assoc all x y ∙ ap (λ l. all ++ l) e)
+part_before grew a b x y z p e = λ start all h. taken_more grew start b.sink.now (all ++ x) y (all ++ z) (p start all h)
+    (append_assoc all x y ∙ ap (λ l. all ++ l) e)
 
 -- the same, where what was to be put is not named
 pub part_more : {K : Type 0} (grew : K → List ℕ → K → Type 0) (a b : Putter K) (x z : List ℕ) → AddsPart grew a x b
     → take (length x) z ≡ x → AddsPart grew a z b
-part_more grew a b x z p e = part_before grew a b x (drop (length x) z) z p (ap (λ l. l ++ drop (length x) z) (sym e) ∙ take-append-drop (length x) z)
+part_more grew a b x z p e = part_before grew a b x (drop (length x) z) z p
+    (ap (λ l. l ++ drop (length x) z) (sym e) ∙ take-append-drop (length x) z)
 
 -- what was put since a start
 pub put_more : {K : Type 0} (grew : K → List ℕ → K → Type 0) (start : K) (a b : Putter K) (all x z : List ℕ)

@@ -40,7 +40,8 @@ AddsPart {K = K} grew old bytes new =
     (start : K) (all : List ℕ) → HasPut grew start old all → HasTaken grew start (sink_of new) (all ++ bytes)
 
 -- a call put these bytes
-pub record Puts {K : Type 0} (grew : K → List ℕ → K → Type 0) (faults : K → ℕ) (old : Putter K) (bytes : List ℕ) (new : Putter K) : Type 0 where
+pub record Puts {K : Type 0} (grew : K → List ℕ → K → Type 0) (faults : K → ℕ) (old : Putter K) (bytes : List ℕ)
+    (new : Putter K) : Type 0 where
   pub same_reference : new.sink.ghost_name ≡ old.sink.ghost_name
   pub later : faults (sink_of old) ≤ faults (sink_of new)
   pub sound : IsSound new
@@ -48,7 +49,8 @@ pub record Puts {K : Type 0} (grew : K → List ℕ → K → Type 0) (faults : 
 
 -- a call that was to put these bytes answered a fault: the sink's count of faults rose in it, unless a write had
 -- failed before
-pub record Fails {K : Type 0} (grew : K → List ℕ → K → Type 0) (faults : K → ℕ) (old : Putter K) (bytes : List ℕ) (new : Putter K) : Type 0 where
+pub record Fails {K : Type 0} (grew : K → List ℕ → K → Type 0) (faults : K → ℕ) (old : Putter K) (bytes : List ℕ)
+    (new : Putter K) : Type 0 where
   pub same_reference : new.sink.ghost_name ≡ old.sink.ghost_name
   pub later : faults (sink_of old) ≤ faults (sink_of new)
   pub failed : HasFailed new

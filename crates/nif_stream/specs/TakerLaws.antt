@@ -44,7 +44,8 @@ if_prepended P o (Some l) x e h = subst (λ o. IfSome o P) (sym e) h
 -- no more bytes are gone than were given
 pub takes_most : (n : ℕ) (o p : Option (List ℕ)) (x : List ℕ) → o ≡ prepended x p → length x ≤ n → TakesAtMost n o p
 takes_most n o None x e h = subst (λ o. TakesAtMost n o None) (sym e) tt
-takes_most n o (Some l) x e h = subst (λ o. TakesAtMost n o (Some l)) (sym e) (let k : length (x ++ l) ≤ n + length l = omega (arith, length-append x l) in k)
+takes_most n o (Some l) x e h = subst (λ o. TakesAtMost n o (Some l)) (sym e)
+    (let k : length (x ++ l) ≤ n + length l = omega (arith, length-append x l) in k)
 
 -- bytes were taken, and then more
 pub takes_joined : {S : Type 0} (left : S → Option (List ℕ)) (still : S → S → Type 0) (faults : S → ℕ)

@@ -61,14 +61,16 @@ line_end left = position (λ c. c == 10) (take 256 left)
 -- The fault of a line: it needs the bytes up to and with the first 0x0A where this is among the next 256, else 256
 -- bytes; `LineTooLong` where these are there and none of them is 0x0A.
 unfoldable pub line_fault : ℕ → List ℕ → Option TakeFault
-line_fault place left = option_map_or (λ end. need_fault place (end + 1) left) (line_end left) (option_map_or (λ fault. Some fault) (need_fault place 256 left) (Some LineTooLong))
+line_fault place left = option_map_or (λ end. need_fault place (end + 1) left) (line_end left)
+    (option_map_or (λ fault. Some fault) (need_fault place 256 left) (Some LineTooLong))
 
 -- whatever was read before, nothing but reads was done since
 unfoldable pub KeepsStill : {S : Type 0} → (S → S → Type 0) → Taker S → Taker S → Type 0
 KeepsStill {S = S} still old new = (start : S) → still start (source_of old) → still start (source_of new)
 
 -- these bytes were given, and the place stands
-pub record Reads {S : Type 0} (left : S → Option (List ℕ)) (still : S → S → Type 0) (faults : S → ℕ) (old : Taker S) (bytes : List ℕ) (new : Taker S) : Type 0 where
+pub record Reads {S : Type 0} (left : S → Option (List ℕ)) (still : S → S → Type 0) (faults : S → ℕ) (old : Taker S)
+    (bytes : List ℕ) (new : Taker S) : Type 0 where
   pub same_reference : new.source.ghost_name ≡ old.source.ghost_name
   pub keeps : KeepsStill still old new
   pub later : faults (source_of old) ≤ faults (source_of new)
@@ -77,7 +79,8 @@ pub record Reads {S : Type 0} (left : S → Option (List ℕ)) (still : S → S 
   pub given : left_of left old ≡ prepended bytes (left_of left new)
 
 -- a call took these bytes
-pub record Takes {S : Type 0} (left : S → Option (List ℕ)) (still : S → S → Type 0) (faults : S → ℕ) (old : Taker S) (bytes : List ℕ) (new : Taker S) : Type 0 where
+pub record Takes {S : Type 0} (left : S → Option (List ℕ)) (still : S → S → Type 0) (faults : S → ℕ) (old : Taker S)
+    (bytes : List ℕ) (new : Taker S) : Type 0 where
   pub same_reference : new.source.ghost_name ≡ old.source.ghost_name
   pub keeps : KeepsStill still old new
   pub later : faults (source_of old) ≤ faults (source_of new)
@@ -89,7 +92,8 @@ pub record Takes {S : Type 0} (left : S → Option (List ℕ)) (still : S → S 
 
 -- A call answered this fault. Where none was answered before, it is `ReadFault` and the source's count rose, or it is
 -- the fault of the bytes left, where they are told. The source gave at most 4,096 bytes more than those asked for.
-pub record Misses {S : Type 0} (left : S → Option (List ℕ)) (still : S → S → Type 0) (faults : S → ℕ) (old : Taker S) (expected : List ℕ → Option TakeFault) (asked : ℕ) (new : Taker S) (fault : TakeFault) : Type 0 where
+pub record Misses {S : Type 0} (left : S → Option (List ℕ)) (still : S → S → Type 0) (faults : S → ℕ) (old : Taker S)
+    (expected : List ℕ → Option TakeFault) (asked : ℕ) (new : Taker S) (fault : TakeFault) : Type 0 where
   pub same_reference : new.source.ghost_name ≡ old.source.ghost_name
   pub keeps : KeepsStill still old new
   pub later : faults (source_of old) ≤ faults (source_of new)

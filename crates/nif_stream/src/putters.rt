@@ -146,9 +146,12 @@ impl<'a, K: Sink> Putter<'a, K> {
 
     /// Writes the bytes that are pending, so that the sink has all that was put. Faults are as those of `put`.
     pub fn finish(self) -> Result<(), WriteFault>
-        ensures ok { OnOk result ((start : K) (all : List ℕ) → HasPut K.grew start self.entry all → K.grew start all self.exit.0.now) }
-        ensures err { OnErr result ((start : K) (all : List ℕ) → HasPut K.grew start self.entry all → HasTaken K.grew start self.exit.0.now all) }
-        ensures cause { IsSound self.entry → HasCause (K.write_faults (sink_of self.entry)) (K.write_faults self.exit.0.now) result }
+        ensures ok { OnOk result ((start : K) (all : List ℕ) → HasPut K.grew start self.entry all
+            → K.grew start all self.exit.0.now) }
+        ensures err { OnErr result ((start : K) (all : List ℕ) → HasPut K.grew start self.entry all
+            → HasTaken K.grew start self.exit.0.now all) }
+        ensures cause { IsSound self.entry → HasCause (K.write_faults (sink_of self.entry))
+            (K.write_faults self.exit.0.now) result }
         ensures stays { HasFailed self.entry → IsErr result × (self.exit.0.now ≡ sink_of self.entry) }
     {
         let Putter {

@@ -160,7 +160,8 @@ impl<'a, S: Source> Taker<'a, S> {
         ensures ok { OnOk result (Reads S.left S.still S.read_faults self.old [] self.new) }
         ensures some { OnOk result (0 < ahead_of self.new) }
         ensures room { OnOk result (place_of self.old + done < most_file_bytes) }
-        ensures err { IfErr result (Misses S.left S.still S.read_faults self.old (need_fault (place_of self.old + done) 1) 0 self.new) }
+        ensures err { IfErr result (Misses S.left S.still S.read_faults self.old
+            (need_fault (place_of self.old + done) 1) 0 self.new) }
     {
         if !self.hold()? {
             return Err(self.fail(TakeFault::Ended));
@@ -180,7 +181,8 @@ impl<'a, S: Source> Taker<'a, S> {
         ensures some { IfOk result (λ n. 0 < n) }
         ensures bound { IfOk result (λ n. n ≤ length part.new) }
         ensures room { IfOk result (λ n. place_of self.old + done + n ≤ most_file_bytes) }
-        ensures err { IfErr result (Misses S.left S.still S.read_faults self.old (need_fault (place_of self.old + done) 1) 0 self.new) }
+        ensures err { IfErr result (Misses S.left S.still S.read_faults self.old
+            (need_fault (place_of self.old + done) 1) 0 self.new) }
     {
         self.ready(done)?;
         let room = (MOST_FILE_BYTES - self.place.taken - done) as usize;
@@ -194,7 +196,8 @@ impl<'a, S: Source> Taker<'a, S> {
         requires within { place_of self.old + done ≤ most_file_bytes }
         ensures ok { IfOk result (λ byte. Reads S.left S.still S.read_faults self.old (byte ∷ []) self.new) }
         ensures room { OnOk result (place_of self.old + done < most_file_bytes) }
-        ensures err { IfErr result (Misses S.left S.still S.read_faults self.old (need_fault (place_of self.old + done) 1) 0 self.new) }
+        ensures err { IfErr result (Misses S.left S.still S.read_faults self.old
+            (need_fault (place_of self.old + done) 1) 0 self.new) }
     {
         let mut byte = [0];
         self.give(done, &mut byte)?;
@@ -219,7 +222,9 @@ impl<'a, S: Source> Taker<'a, S> {
     /// `buf` holds.
     pub fn take(&mut self, buf: &mut [u8]) -> Result<(), TakeFault>
         ensures ok { OnOk result (Takes S.left S.still S.read_faults self.old buf.new self.new) }
-        ensures err { IfErr result (Misses S.left S.still S.read_faults self.old (need_fault (place_of self.old) (length buf.new)) (asked_at (place_of self.old) (length buf.new)) self.new) }
+        ensures err { IfErr result (Misses S.left S.still S.read_faults self.old
+            (need_fault (place_of self.old) (length buf.new))
+            (asked_at (place_of self.old) (length buf.new)) self.new) }
         ensures stays { IfSome (fault_of self.old) (λ fault. (result ≡ Err fault) × (self.new ≡ self.old)) }
     {
         if let Some(fault) = self.fault {
@@ -239,9 +244,11 @@ impl<'a, S: Source> Taker<'a, S> {
     /// bytes as in `take`. `LineTooLong`: neither of them comes, and none of the 256 bytes is 0x0A.
     pub fn line(&mut self, into: &mut [u8; 255]) -> Result<usize, TakeFault>
         ensures bound { IfOk result (λ n. n ≤ 255) }
-        ensures ok { IfOk result (λ n. Takes S.left S.still S.read_faults self.old (take n into.new ++ 10 ∷ []) self.new) }
+        ensures ok { IfOk result (λ n. Takes S.left S.still S.read_faults self.old
+            (take n into.new ++ 10 ∷ []) self.new) }
         ensures one_line { IfOk result (λ n. All (λ c. c ≢ 10) (take n into.new)) }
-        ensures err { IfErr result (Misses S.left S.still S.read_faults self.old (line_fault (place_of self.old)) (asked_at (place_of self.old) 256) self.new) }
+        ensures err { IfErr result (Misses S.left S.still S.read_faults self.old (line_fault (place_of self.old))
+            (asked_at (place_of self.old) 256) self.new) }
         ensures stays { IfSome (fault_of self.old) (λ fault. (result ≡ Err fault) × (self.new ≡ self.old)) }
     {
         if let Some(fault) = self.fault {
@@ -265,7 +272,8 @@ impl<'a, S: Source> Taker<'a, S> {
     /// Whether no byte is left. No fault but `ReadFault` comes, unless another was answered before.
     pub fn at_end(&mut self) -> Result<bool, TakeFault>
         ensures ok { OnOk result (Takes S.left S.still S.read_faults self.old [] self.new) }
-        ensures answer { IfOk result (λ is_end. IfSome (left_of S.left self.old) (λ bytes. IsTrue is_end ↔ (bytes ≡ []))) }
+        ensures answer { IfOk result (λ is_end. IfSome (left_of S.left self.old)
+            (λ bytes. IsTrue is_end ↔ (bytes ≡ []))) }
         ensures read { IsSound self.old → IfErr result (λ fault. fault ≡ TakeFault.ReadFault) }
         ensures err { IfErr result (Misses S.left S.still S.read_faults self.old (λ _. None) 0 self.new) }
         ensures stays { IfSome (fault_of self.old) (λ fault. (result ≡ Err fault) × (self.new ≡ self.old)) }

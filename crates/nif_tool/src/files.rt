@@ -16,8 +16,8 @@ use crate::words::SchemaName;
 use nif_base::{Failed, Kind, Shelf, WriteFault};
 use nif_check::Checked;
 use nif_file::{FileFault, encode_file};
-use nif_graph::GraphParts;
 use nif_file_reader::decode_file;
+use nif_graph::GraphParts;
 use std::alloc::Global;
 
 /// A file that was read, and the schema by which it was.

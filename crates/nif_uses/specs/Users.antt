@@ -36,13 +36,15 @@ pub record IsLinked (latest : List (Option ℕ)) (links : List Link) : Type 0 wh
   pub last : (used : ℕ) (at : Option ℕ) → slice_get latest used ≡ Some at → IsLatest links used (length links) at
 
 -- What marking one declaration changes: where it wasn't marked before it is now, and waits.
-pub data IsMarking (number : ℕ) (marks : List Bool) (waiting : List ℕ) (marked : List Bool) (queue : List ℕ) : Type 0 where
+pub data IsMarking (number : ℕ) (marks : List Bool) (waiting : List ℕ) (marked : List Bool)
+    (queue : List ℕ) : Type 0 where
   Again : IsMarked marks number → marked ≡ marks → queue ≡ waiting → IsMarking number marks waiting marked queue
   Anew : slice_get marks number ≡ Some false → marked ≡ set marks number true → queue ≡ waiting ++ number ∷ []
       → IsMarking number marks waiting marked queue
 
 -- What marking the users of a declaration changes: they are marked, and those that were not marked before wait.
-pub record AreUsersMarked (links : List Link) (used : ℕ) (marks : List Bool) (waiting : List ℕ) (marked : List Bool) (queue : List ℕ) : Type 0 where
+pub record AreUsersMarked (links : List Link) (used : ℕ) (marks : List Bool) (waiting : List ℕ) (marked : List Bool)
+    (queue : List ℕ) : Type 0 where
   pub kept : (k : ℕ) → IsMarked marks k → IsMarked marked k
   pub users : (k : ℕ) → Contains (pairs links) (used, k) → IsMarked marked k
   pub sound : (k : ℕ) → IsMarked marked k → IsMarked marks k ⊎ Contains (pairs links) (used, k)
@@ -56,4 +58,5 @@ pub record IsSpreading (schema : Schema) (from : List Bool) (marks : List Bool) 
   pub waits : All (IsMarked marks) waiting
   pub sound : (k : ℕ) → IsMarked marks k → ReachesMarked schema from k
   pub begun : (k : ℕ) → IsMarked from k → IsMarked marks k
-  pub closed : (k : ℕ) → IsMarked marks k → Contains waiting k ⊎ ((user : ℕ) → Contains (uses schema user) k → IsMarked marks user)
+  pub closed : (k : ℕ) → IsMarked marks k
+      → Contains waiting k ⊎ ((user : ℕ) → Contains (uses schema user) k → IsMarked marks user)

@@ -34,10 +34,12 @@ pub fn reaching(
     marked: &[bool],
 ) -> Result<Vec<bool>, NoMemory>
     requires generic_count { length generic.now ≡ length schema.now }
-    requires generic { (number : ℕ) → number < length schema.now → slice_get generic.now number ≡ Some (is_generic schema.now number) }
+    requires generic { (number : ℕ) → number < length schema.now
+        → slice_get generic.now number ≡ Some (is_generic schema.now number) }
     requires marked_count { length marked.now ≡ length schema.now }
     ensures count { IfOk result (λ marks. length marks.items ≡ length schema.now) }
-    ensures each { IfOk result (λ marks. (number : ℕ) → IsMarked marks.items number ↔ ReachesMarked schema.now marked.now number) }
+    ensures each { IfOk result (λ marks. (number : ℕ) → IsMarked marks.items number
+        ↔ ReachesMarked schema.now marked.now number) }
 {
     let users = match Users::of(alloc, schema, generic) {
         Ok(users) => users,

@@ -52,7 +52,8 @@ fn is_generic_struct(decl: &Decl) -> bool
 /// It takes time linear in declarations and fields.
 pub fn generic_structs(alloc: Global, schema: &Schema) -> Result<Vec<bool>, NoMemory>
     ensures count { IfOk result (λ marks. length marks.items ≡ length schema.now) }
-    ensures each { IfOk result (λ marks. (number : ℕ) → number < length schema.now → slice_get marks.items number ≡ Some (is_generic schema.now number)) }
+    ensures each { IfOk result (λ marks. (number : ℕ) → number < length schema.now
+        → slice_get marks.items number ≡ Some (is_generic schema.now number)) }
 {
     let mut marks = Vec::new(alloc);
     for number in 0..schema.count() {

@@ -73,10 +73,12 @@ impl Users {
         requires count { length self.old.latest.items ≡ length schema.now }
         requires linked { IsLinked self.old.latest.items self.old.links.items }
         requires generic_count { length generic.now ≡ length schema.now }
-        requires generic { (number : ℕ) → number < length schema.now → slice_get generic.now number ≡ Some (is_generic schema.now number) }
+        requires generic { (number : ℕ) → number < length schema.now
+            → slice_get generic.now number ≡ Some (is_generic schema.now number) }
         ensures count { length self.new.latest.items ≡ length self.old.latest.items }
         ensures linked { OnOk result (IsLinked self.new.latest.items self.new.links.items) }
-        ensures links { OnOk result (pairs self.new.links.items ≡ pairs self.old.links.items ++ uses_by user (uses_of_field schema.now (field of.now))) }
+        ensures links { OnOk result (pairs self.new.links.items
+            ≡ pairs self.old.links.items ++ uses_by user (uses_of_field schema.now (field of.now))) }
     {
         let Some(kind) = named(schema, &of.kind) else {
             return Ok(());
@@ -105,10 +107,12 @@ impl Users {
         requires count { length self.old.latest.items ≡ length schema.now }
         requires linked { IsLinked self.old.latest.items self.old.links.items }
         requires generic_count { length generic.now ≡ length schema.now }
-        requires generic { (number : ℕ) → number < length schema.now → slice_get generic.now number ≡ Some (is_generic schema.now number) }
+        requires generic { (number : ℕ) → number < length schema.now
+            → slice_get generic.now number ≡ Some (is_generic schema.now number) }
         ensures count { length self.new.latest.items ≡ length self.old.latest.items }
         ensures linked { OnOk result (IsLinked self.new.latest.items self.new.links.items) }
-        ensures links { OnOk result (pairs self.new.links.items ≡ pairs self.old.links.items ++ uses_by user (uses schema.now user)) }
+        ensures links { OnOk result (pairs self.new.links.items
+            ≡ pairs self.old.links.items ++ uses_by user (uses schema.now user)) }
     {
         self.add_parent(schema, user)?;
         let fields = &schema.decl(user).fields;
@@ -128,7 +132,8 @@ impl Users {
         requires linked { IsLinked self.old.latest.items self.old.links.items }
         ensures count { length self.new.latest.items ≡ length self.old.latest.items }
         ensures linked { OnOk result (IsLinked self.new.latest.items self.new.links.items) }
-        ensures links { OnOk result (pairs self.new.links.items ≡ pairs self.old.links.items ++ uses_by user (option_to_list (parent schema.now user))) }
+        ensures links { OnOk result (pairs self.new.links.items
+            ≡ pairs self.old.links.items ++ uses_by user (option_to_list (parent schema.now user))) }
     {
         match schema.parent(user) {
             Some(parent) => self.add(parent, user),
@@ -139,7 +144,8 @@ impl Users {
     /// All uses of a schema, whose generic structs are marked. It takes time linear in declarations and fields.
     pub(crate) fn of(alloc: Global, schema: &Schema, generic: &[bool]) -> Result<Users, NoMemory>
         requires generic_count { length generic.now ≡ length schema.now }
-        requires generic { (number : ℕ) → number < length schema.now → slice_get generic.now number ≡ Some (is_generic schema.now number) }
+        requires generic { (number : ℕ) → number < length schema.now
+            → slice_get generic.now number ≡ Some (is_generic schema.now number) }
         ensures count { IfOk result (λ users. length users.latest.items ≡ length schema.now) }
         ensures linked { IfOk result (λ users. IsLinked users.latest.items users.links.items) }
         ensures links { IfOk result (λ users. pairs users.links.items ≡ uses_below schema.now (length schema.now)) }
@@ -169,7 +175,8 @@ impl Users {
         requires users { All (λ l. l.user < length marks.old.items) self.now.links.items }
         ensures marked { OnOk result (AreUsersMarked self.now.links.items used marks.old.items waiting.old.items marks.new.items waiting.new.items) }
         ensures count { length marks.new.items ≡ length marks.old.items }
-        ensures fewer { OnOk result (unmarked marks.new.items + length waiting.new.items ≡ unmarked marks.old.items + length waiting.old.items) }
+        ensures fewer { OnOk result (unmarked marks.new.items + length waiting.new.items
+            ≡ unmarked marks.old.items + length waiting.old.items) }
     {
         let mut at = self.latest[used as usize];
         while let Some(place) = at {
@@ -187,7 +194,8 @@ impl Users {
 /// Marks a declaration, and puts it among those that wait, unless it was marked before.
 fn mark_one(number: u32, marks: &mut Vec<bool>, waiting: &mut Vec<u32>) -> Result<(), NoMemory>
     requires { number < length marks.old.items }
-    ensures marked { OnOk result (IsMarking number marks.old.items waiting.old.items marks.new.items waiting.new.items) }
+    ensures marked { OnOk result
+        (IsMarking number marks.old.items waiting.old.items marks.new.items waiting.new.items) }
     ensures count { length marks.new.items ≡ length marks.old.items }
 {
     if marks[number as usize] {

@@ -50,7 +50,8 @@ end_said kind.Row left bits = content.End
 -- what is kept of each level that is open, the outermost first
 abbrev pub marks : List Level → List Open
 marks [] = []
-marks (level ∷ outer) = marks outer ++ record { kind = kind_of level; head = length (building_contents outer); count = size_of level } ∷ []
+marks (level ∷ outer) =
+    marks outer ++ record { kind = kind_of level; head = length (building_contents outer); count = size_of level } ∷ []
 
 -- the innermost level holds so many more
 abbrev pub counted : ℕ → List Open → List Open
@@ -74,7 +75,8 @@ StandsAlone (Some top) levels = HasBytes top × (levels ≡ [])
 
 -- Cells are those of a tree that is being built, and beside them is kept what is open and where its references are.
 -- There is room for the ends of all that is open and for the places of the references.
-pub record IsBuilt (tree : Building) (cells : List Cell) (open_levels : List Open) (references : List ℕ) (pushed left bits spare places : ℕ) : Type 0 where
+pub record IsBuilt (tree : Building) (cells : List Cell) (open_levels : List Open) (references : List ℕ)
+    (pushed left bits spare places : ℕ) : Type 0 where
   pub says : said cells ≡ contents_of tree
   pub levels_are : open_levels ≡ marks tree.levels
   pub references_are : references ≡ places_from 0 (said cells)
@@ -90,8 +92,10 @@ pub record IsBuilt (tree : Building) (cells : List Cell) (open_levels : List Ope
 
 -- a tree is being built of these cells, or none is
 abbrev pub Stands : Option (List Cell) → List Open → List ℕ → ℕ → ℕ → ℕ → ℕ → ℕ → Type 0
-Stands None open_levels references pushed left bits spare places = (open_levels ≡ []) × (references ≡ []) × (pushed ≡ 0) × (left ≡ 0) × (bits ≡ 0)
-Stands (Some cells) open_levels references pushed left bits spare places = (tree : Building) × IsBuilt tree cells open_levels references pushed left bits spare places
+Stands None open_levels references pushed left bits spare places =
+    (open_levels ≡ []) × (references ≡ []) × (pushed ≡ 0) × (left ≡ 0) × (bits ≡ 0)
+Stands (Some cells) open_levels references pushed left bits spare places =
+    (tree : Building) × IsBuilt tree cells open_levels references pushed left bits spare places
 
 -- what a cell that says this makes of what is open
 abbrev pub added : Content → List Level → Building

@@ -24,10 +24,12 @@ level_again (InGroup members) = refl
 level_again (InRow items) = refl
 
 abbrev coded_level : Coded Level
-coded_level = code_by (List ℕ ⊎ (Members ⊎ Members)) (coded⊎ (coded_list coded_ℕ) (coded⊎ coded_members coded_members)) level_parts level_back level_again
+coded_level = code_by (List ℕ ⊎ (Members ⊎ Members))
+    (coded⊎ (coded_list coded_ℕ) (coded⊎ coded_members coded_members)) level_parts level_back level_again
 
 abbrev coded_building : Coded Building
-coded_building = code_by (Option Node × List Level) (coded× (coded_option coded_node) (coded_list coded_level)) (λ b. (b.top, b.levels)) (λ p. record { top = p.0; levels = p.1 }) (λ _. refl)
+coded_building = code_by (Option Node × List Level) (coded× (coded_option coded_node) (coded_list coded_level))
+    (λ b. (b.top, b.levels)) (λ p. record { top = p.0; levels = p.1 }) (λ _. refl)
 
 abbrev pub coded_trees : Coded Trees
 coded_trees =
@@ -57,7 +59,8 @@ met_again LeftOut = refl
 met_again Ends = refl
 
 abbrev coded_met : Coded Met
-coded_met = code_by (Node ⊎ ((Bool × ℕ) ⊎ Bool)) (coded⊎ coded_node (coded⊎ (coded× coded_bool coded_ℕ) coded_bool)) met_parts met_back met_again
+coded_met = code_by (Node ⊎ ((Bool × ℕ) ⊎ Bool))
+    (coded⊎ coded_node (coded⊎ (coded× coded_bool coded_ℕ) coded_bool)) met_parts met_back met_again
 
 abbrev pub coded_walking : Coded Walking
 coded_walking =

@@ -41,7 +41,8 @@ building_of left bits cells = with_last (low_first left bits) (building_in (said
 -- room for cells, where so many levels and references have their places
 abbrev pub spare_in : Contents → ℕ → ℕ → ℕ
 spare_in region open_places reference_places =
-    if nat_lt open_places 256 then 0 else min (region.spare_cells + cells_built region.building) (2 * reference_places + 1)
+    if nat_lt open_places 256 then 0 else min (region.spare_cells + cells_built region.building)
+    (2 * reference_places + 1)
 
 abbrev pub trees_of : Contents → ℕ → ℕ → ℕ → ℕ → Trees
 trees_of region left bits open_places reference_places = record {
@@ -68,6 +69,7 @@ walking_of region key next span = record {
 }
 
 -- the runs are trees, and what is kept of the one that is being built is so
-pub record IsKept (region : Contents) (open_levels : List Open) (references : List ℕ) (pushed left bits places : ℕ) : Type 0 where
+pub record IsKept (region : Contents) (open_levels : List Open) (references : List ℕ)
+    (pushed left bits places : ℕ) : Type 0 where
   pub trees : AreTrees region.runs
   pub built : Stands region.building open_levels references pushed left bits region.spare_cells places

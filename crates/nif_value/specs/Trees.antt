@@ -53,7 +53,8 @@ pub record IsWithin (b : Building) : Type 0 where
   pub levels_within : length b.levels ≤ 256
 
 -- a tree is being built that takes such a step, and is within the limits after it
-pub record Takes (building : Option Building) (HasPlace : Building → Type 0) (step : List Level → Building) : Type 0 where
+pub record Takes (building : Option Building) (HasPlace : Building → Type 0)
+    (step : List Level → Building) : Type 0 where
   pub place : IsSomeAnd building HasPlace
   pub limits : IsSomeAnd (after building step) IsWithin
 

@@ -63,7 +63,8 @@ pub record IsAt (cells : List Cell) (place : ℕ) (content : Content) : Type 0 w
 -- the cells of so many bytes stand at a place, and so many at most were copied
 abbrev pub IsSpan : List Cell → Option Span → Type 0
 IsSpan cells None = Unit {0}
-IsSpan cells (Some span) = HasCells span.len (said (drop span.first cells)) × (span.copied ≤ span.len) × (span.first + span.len / 8 < 2 ^ 32)
+IsSpan cells (Some span) =
+    HasCells span.len (said (drop span.first cells)) × (span.copied ≤ span.len) × (span.first + span.len / 8 < 2 ^ 32)
 
 -- a walk stands where a step begins, or at the end
 pub record IsOnWay (region : Contents) (key next : ℕ) (span : Option Span) : Type 0 where
@@ -76,4 +77,5 @@ pub record IsOnWay (region : Contents) (key next : ℕ) (span : Option Span) : T
 pub record Moves (region : Contents) (key next : ℕ) (move : Move) : Type 0 where
   pub on_way : IsOnWay region key move.next move.bytes
   pub step : move.step ≡ next_step (met_in (said (drop next (cells_in (find region.runs key)))))
-  pub new : walking_of region key move.next move.bytes ≡ walked (met_in (said (drop next (cells_in (find region.runs key)))))
+  pub new : walking_of region key move.next move.bytes
+      ≡ walked (met_in (said (drop next (cells_in (find region.runs key)))))

@@ -80,7 +80,8 @@ pub(crate) fn put_bytes(region: &mut Region, packing: &mut Packing, bytes: &[u8]
     requires room { MayPut region.old ((packing.old.left + length bytes.now) / 8) }
     requires left { packing.old.left < 8 }
     requires bits { packing.old.bits < 256 ^ packing.old.left }
-    ensures puts { Puts region.old region.new (words (packed_from (started packing.old.left packing.old.bits) bytes.now).words) }
+    ensures puts { Puts region.old region.new (words
+        (packed_from (started packing.old.left packing.old.bits) bytes.now).words) }
     ensures left { packing.new.left ≡ (packed_from (started packing.old.left packing.old.bits) bytes.now).left }
     ensures bits { packing.new.bits ≡ (packed_from (started packing.old.left packing.old.bits) bytes.now).bits }
 {

@@ -22,7 +22,8 @@ impl Packing {
     pub(crate) fn add(&mut self, byte: u8) -> Option<u64>
         requires left { self.old.left < 8 }
         requires bits { self.old.bits < 256 ^ self.old.left }
-        ensures more { packed_more (started self.old.left self.old.bits) byte ≡ record { words = option_to_list result; bits = self.new.bits; left = self.new.left } }
+        ensures more { packed_more (started self.old.left self.old.bits) byte
+            ≡ record { words = option_to_list result; bits = self.new.bits; left = self.new.left } }
         ensures left { self.new.left < 8 }
         ensures bits { self.new.bits < 256 ^ self.new.left }
     {

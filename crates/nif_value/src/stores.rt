@@ -120,7 +120,8 @@ impl Store {
         ensures ok { OnOk result (self.new.building ≡ after self.old.building (placed (node.Num width little bits))) }
         ensures err { OnErr result (self.new.building ≡ self.old.building) }
         ensures spare { SpareStays self.old self.new }
-        ensures succeeds { most_cells_built (after self.old.building (placed (node.Num width little bits))) ≤ self.old.spare_cells → IsOk result }
+        ensures succeeds { most_cells_built (after self.old.building (placed (node.Num width little bits)))
+            ≤ self.old.spare_cells → IsOk result }
     {
         self.add(Content::Number {
             width,
@@ -138,7 +139,8 @@ impl Store {
         ensures ok { OnOk result (self.new.building ≡ after self.old.building (placed (node.Line bytes.now))) }
         ensures err { OnErr result (self.new.building ≡ self.old.building) }
         ensures spare { SpareStays self.old self.new }
-        ensures succeeds { most_cells_built (after self.old.building (placed (node.Line bytes.now))) ≤ self.old.spare_cells → IsOk result }
+        ensures succeeds { most_cells_built (after self.old.building (placed (node.Line bytes.now)))
+            ≤ self.old.spare_cells → IsOk result }
     {
         let full = bytes.len() as u32 / 8;
         let pending = self.open.len() + self.references.len();
@@ -168,10 +170,12 @@ impl Store {
         requires takes { Takes self.old.building TakesNode (placed (node.Ref view.strong view.wanted view.target)) }
         requires target { IfSome view.target (λ target. target < 2 ^ 32 - 1) }
         ensures trees { self.new.trees ≡ self.old.trees }
-        ensures ok { OnOk result (self.new.building ≡ after self.old.building (placed (node.Ref view.strong view.wanted view.target))) }
+        ensures ok { OnOk result (self.new.building ≡ after self.old.building
+            (placed (node.Ref view.strong view.wanted view.target))) }
         ensures err { OnErr result (self.new.building ≡ self.old.building) }
         ensures spare { SpareStays self.old self.new }
-        ensures succeeds { most_cells_built (after self.old.building (placed (node.Ref view.strong view.wanted view.target))) ≤ self.old.spare_cells → IsOk result }
+        ensures succeeds { most_cells_built (after self.old.building
+            (placed (node.Ref view.strong view.wanted view.target))) ≤ self.old.spare_cells → IsOk result }
     {
         let pending = self.open.len() + self.references.len();
         self.region.reserve(2 + pending as u32, 0)?;
@@ -193,7 +197,8 @@ impl Store {
         ensures ok { OnOk result (self.new.building ≡ after self.old.building (placed (node.Text index))) }
         ensures err { OnErr result (self.new.building ≡ self.old.building) }
         ensures spare { SpareStays self.old self.new }
-        ensures succeeds { most_cells_built (after self.old.building (placed (node.Text index))) ≤ self.old.spare_cells → IsOk result }
+        ensures succeeds { most_cells_built (after self.old.building (placed (node.Text index))) ≤ self.old.spare_cells
+            → IsOk result }
     {
         self.add(Content::Text { index })
     }
@@ -205,7 +210,8 @@ impl Store {
         ensures ok { OnOk result (self.new.building ≡ after self.old.building (opened (InBytes []))) }
         ensures err { OnErr result (self.new.building ≡ self.old.building) }
         ensures spare { SpareStays self.old self.new }
-        ensures succeeds { most_cells_built (after self.old.building (opened (InBytes []))) ≤ self.old.spare_cells → IsOk result }
+        ensures succeeds { most_cells_built (after self.old.building (opened (InBytes []))) ≤ self.old.spare_cells
+            → IsOk result }
     {
         self.open(Kind::Bytes)
     }
@@ -217,7 +223,8 @@ impl Store {
         ensures ok { OnOk result (self.new.building ≡ after self.old.building (lengthened bytes.now)) }
         ensures err { OnErr result (self.new.building ≡ self.old.building) }
         ensures spare { SpareStays self.old self.new }
-        ensures succeeds { most_cells_built (after self.old.building (lengthened bytes.now)) ≤ self.old.spare_cells → IsOk result }
+        ensures succeeds { most_cells_built (after self.old.building (lengthened bytes.now)) ≤ self.old.spare_cells
+            → IsOk result }
     {
         let full = (self.packing.left + bytes.len() as u32) / 8;
         let pending = self.open.len() + self.references.len();
@@ -235,7 +242,8 @@ impl Store {
         ensures ok { OnOk result (self.new.building ≡ after self.old.building (opened (InGroup node.End))) }
         ensures err { OnErr result (self.new.building ≡ self.old.building) }
         ensures spare { SpareStays self.old self.new }
-        ensures succeeds { most_cells_built (after self.old.building (opened (InGroup node.End))) ≤ self.old.spare_cells → IsOk result }
+        ensures succeeds { most_cells_built (after self.old.building (opened (InGroup node.End))) ≤ self.old.spare_cells
+            → IsOk result }
     {
         self.open(Kind::Group)
     }
@@ -259,7 +267,8 @@ impl Store {
         ensures ok { OnOk result (self.new.building ≡ after self.old.building (opened (InRow node.End))) }
         ensures err { OnErr result (self.new.building ≡ self.old.building) }
         ensures spare { SpareStays self.old self.new }
-        ensures succeeds { most_cells_built (after self.old.building (opened (InRow node.End))) ≤ self.old.spare_cells → IsOk result }
+        ensures succeeds { most_cells_built (after self.old.building (opened (InRow node.End))) ≤ self.old.spare_cells
+            → IsOk result }
     {
         self.open(Kind::Row)
     }
@@ -340,7 +349,8 @@ impl Store {
     /// The place of the cell of a reference.
     fn place_of(&self, tree: TreeId, k: u32) -> u32
         requires { IsSomeAnd (find self.now.trees tree.run.key) (λ node. k < length (refs node)) }
-        ensures { IfSome (find self.now.trees tree.run.key) (λ node. slice_get (places_from 0 (contents node)) k ≡ Some result) }
+        ensures { IfSome (find self.now.trees tree.run.key)
+            (λ node. slice_get (places_from 0 (contents node)) k ≡ Some result) }
     {
         let place = self.region.len(tree.run) - self.ref_count(tree) + k;
         match Content::of(self.region.get(tree.run, place)) {
@@ -352,7 +362,8 @@ impl Store {
     /// A reference of a tree, counted from 0 in the order of its bytes.
     pub fn ref_at(&self, tree: TreeId, k: u32) -> RefView
         requires { IsSomeAnd (find self.now.trees tree.run.key) (λ node. k < length (refs node)) }
-        ensures { IfSome (find self.now.trees tree.run.key) (λ node. slice_get (refs node) k ≡ Some (reference_of result)) }
+        ensures { IfSome (find self.now.trees tree.run.key)
+            (λ node. slice_get (refs node) k ≡ Some (reference_of result)) }
     {
         match Content::of(self.region.get(tree.run, self.place_of(tree, k))) {
             Content::Reference { view } => view,
@@ -364,8 +375,10 @@ impl Store {
     pub fn set_ref(&mut self, tree: TreeId, k: u32, target: Option<u32>)
         requires place { IsSomeAnd (find self.old.trees tree.run.key) (λ node. k < length (refs node)) }
         requires target { IfSome target (λ target. target < 2 ^ 32 - 1) }
-        ensures trees { IfSome (find self.old.trees tree.run.key) (λ node. self.new.trees ≡ put tree.run.key (with_target k target node) self.old.trees) }
-        ensures tree { IfSome (find self.old.trees tree.run.key) (λ node. find self.new.trees tree.run.key ≡ Some (with_target k target node)) }
+        ensures trees { IfSome (find self.old.trees tree.run.key)
+            (λ node. self.new.trees ≡ put tree.run.key (with_target k target node) self.old.trees) }
+        ensures tree { IfSome (find self.old.trees tree.run.key)
+            (λ node. find self.new.trees tree.run.key ≡ Some (with_target k target node)) }
         ensures others { (key : ℕ) → key ≢ tree.run.key → find self.new.trees key ≡ find self.old.trees key }
         ensures building { self.new.building ≡ self.old.building }
         ensures spare { SpareStays self.old self.new }
@@ -384,14 +397,18 @@ impl Store {
         requires live { IsLive self.old tree.run.key }
         ensures building { self.new.building ≡ None }
         ensures fresh { IfOk result (λ copy. find self.old.trees copy.run.key ≡ None) }
-        ensures trees { IfOk result (λ copy. self.new.trees ≡ with_tree self.old.trees copy.run.key (find self.old.trees tree.run.key)) }
+        ensures trees { IfOk result (λ copy. self.new.trees
+            ≡ with_tree self.old.trees copy.run.key (find self.old.trees tree.run.key)) }
         ensures tree { IfOk result (λ copy. find self.new.trees copy.run.key ≡ find self.old.trees tree.run.key) }
-        ensures others { IfOk result (λ copy. (key : ℕ) → key ≢ copy.run.key → find self.new.trees key ≡ find self.old.trees key) }
+        ensures others { IfOk result (λ copy. (key : ℕ) → key ≢ copy.run.key
+            → find self.new.trees key ≡ find self.old.trees key) }
         ensures err { OnErr result (self.new.trees ≡ self.old.trees) }
         ensures stays { OnErr result (SpareStays self.old self.new) }
-        ensures spare { IfSome (find self.old.trees tree.run.key) (λ node. self.old.spare_cells ≤ self.new.spare_cells + most_cells node) }
+        ensures spare { IfSome (find self.old.trees tree.run.key)
+            (λ node. self.old.spare_cells ≤ self.new.spare_cells + most_cells node) }
         ensures spare_trees { self.old.spare_trees ≤ self.new.spare_trees + 1 }
-        ensures succeeds { IfSome (find self.old.trees tree.run.key) (λ node. most_cells node ≤ self.old.spare_cells) → 1 ≤ self.old.spare_trees → IsOk result }
+        ensures succeeds { IfSome (find self.old.trees tree.run.key) (λ node. most_cells node ≤ self.old.spare_cells)
+            → 1 ≤ self.old.spare_trees → IsOk result }
     {
         let len = self.region.len(tree.run);
         self.region.reserve(len + 1, 1)?;
@@ -447,7 +464,8 @@ impl Store {
         ensures ok { OnOk result (self.new.building ≡ after self.old.building (added content)) }
         ensures err { OnErr result (self.new.building ≡ self.old.building) }
         ensures spare { SpareStays self.old self.new }
-        ensures succeeds { most_cells_built (after self.old.building (added content)) ≤ self.old.spare_cells → IsOk result }
+        ensures succeeds { most_cells_built (after self.old.building (added content)) ≤ self.old.spare_cells
+            → IsOk result }
     {
         let pending = self.open.len() + self.references.len();
         self.region.reserve(1 + pending as u32, 0)?;
@@ -464,7 +482,8 @@ impl Store {
         ensures ok { OnOk result (self.new.building ≡ after self.old.building (opened (empty kind))) }
         ensures err { OnErr result (self.new.building ≡ self.old.building) }
         ensures spare { SpareStays self.old self.new }
-        ensures succeeds { most_cells_built (after self.old.building (opened (empty kind))) ≤ self.old.spare_cells → IsOk result }
+        ensures succeeds { most_cells_built (after self.old.building (opened (empty kind))) ≤ self.old.spare_cells
+            → IsOk result }
     {
         let pending = self.open.len() + self.references.len();
         self.region.reserve(2 + pending as u32, 0)?;

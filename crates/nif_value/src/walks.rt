@@ -145,7 +145,12 @@ fn plain_step(content: Content) -> Option<Step>
 /// The step at a head, behind which stand the cells of so many bytes: it passes over them all.
 fn pass_bytes(step: Step, head: u32, len: u32) -> Move
     requires { head + (2 + len / 8) < 2 ^ 32 }
-    ensures { result ≡ record { step = Some step; next = head + (2 + len / 8); bytes = Some (record { first = head + 1; len = len; copied = 0 }) } }
+    ensures { result ≡ record {
+      step = Some step;
+      next = head
+          + (2 + len / 8);
+      bytes = Some (record { first = head + 1; len = len; copied = 0 });
+    } }
 {
     Move {
         step: Some(step),
@@ -201,7 +206,8 @@ fn byte_at(region: &Region, run: RunId, span: Span, place: u32) -> u8
     requires live { IsSome (find region.now.runs run.key) }
     requires span { IsSpan (cells_in (find region.now.runs run.key)) (Some span) }
     requires within { place < span.len }
-    ensures { slice_get (bytes_at (said (drop span.first (cells_in (find region.now.runs run.key))))) place ≡ Some result }
+    ensures { slice_get (bytes_at (said (drop span.first (cells_in (find region.now.runs run.key))))) place
+        ≡ Some result }
 {
     let bits = byte_bits(Content::of(region.get(run, span.first + place / 8)));
     ((bits >> (8 * (place % 8))) % 256) as u8
@@ -212,7 +218,8 @@ fn copy_bytes(region: &Region, run: RunId, span: Span, buf: &mut [u8]) -> usize
     requires live { IsSome (find region.now.runs run.key) }
     requires span { IsSpan (cells_in (find region.now.runs run.key)) (Some span) }
     ensures count { result ≡ min (length buf.old) (span.len - span.copied) }
-    ensures buf { buf.new ≡ take result (drop span.copied (bytes_at (said (drop span.first (cells_in (find region.now.runs run.key)))))) ++ drop result buf.old }
+    ensures buf { buf.new ≡ take result (drop span.copied
+        (bytes_at (said (drop span.first (cells_in (find region.now.runs run.key)))))) ++ drop result buf.old }
 {
     let count = buf.len().min((span.len - span.copied) as usize);
     for i in 0..count {
