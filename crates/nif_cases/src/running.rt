@@ -150,6 +150,8 @@ struct Came {
     status: u8,
     printed: Vec<u8>,
     files_are: bool,
+    /// Whether the shelf tells each refusal, as it does unless memory ran out.
+    tells_refusals: bool,
 }
 
 /// Runs a case once.
@@ -165,6 +167,7 @@ fn come(alloc: Global, case: &Case, setting: Setting, want: Want<'_>) -> Result<
         status: answer.status as u8,
         printed,
         files_are: files_are(&shelf, case, setting.cut, want.leaves),
+        tells_refusals: shelf.tells_refusals(),
     })
 }
 
@@ -178,7 +181,7 @@ fn agrees(
 ) -> Result<bool, Trouble> {
     let came = come(alloc, case, setting, want)?;
     let same_text = came.printed.as_slice() == want.printed;
-    if came.status == want.status && same_text && came.files_are {
+    if came.status == want.status && same_text && came.files_are && came.tells_refusals {
         return Ok(true);
     }
     add_setting(report, case.name.as_str(), setting)?;
@@ -186,6 +189,9 @@ fn agrees(
     add_answer(report, "came", came.status, came.printed.as_slice())?;
     if !came.files_are {
         report.push_str("  other files than wanted\n")?;
+    }
+    if !came.tells_refusals {
+        report.push_str("  refusals are not told\n")?;
     }
     Ok(false)
 }
