@@ -33,7 +33,8 @@ older _ = None
 
 -- The text of an attribute of a field, as it is written. The older spelling counts where the newer one is missing.
 unfoldable pub written : Attrs → Attribute → Option Text
-written attrs attribute = option_or (given attrs (name_of_attribute attribute)) (option_and_then (given attrs) (older attribute))
+written attrs attribute =
+    option_or (given attrs (name_of_attribute attribute)) (option_and_then (given attrs) (older attribute))
 
 -- `type` and `template` name a type
 abbrev pub names_type : Attribute → Bool
@@ -55,4 +56,5 @@ replaced_by groups attribute text = expanded groups (name_of_attribute attribute
 -- The text of an attribute of a field: older spellings first, and then tokens, whose replacement is `replaced`.
 -- A text that is empty then counts as missing.
 unfoldable pub text_of : (Attribute → Text → Expanded) → Attrs → Attribute → Option Expanded
-text_of replaced attrs attribute = option_and_then (λ text. unless_nothing (replaced attribute (newer attribute text))) (written attrs attribute)
+text_of replaced attrs attribute =
+    option_and_then (λ text. unless_nothing (replaced attribute (newer attribute text))) (written attrs attribute)

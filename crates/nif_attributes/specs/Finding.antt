@@ -25,7 +25,8 @@ first_from None number = number
 first_from (Some span) number = min span.first number
 
 -- the index tells of a token of this number
-pub record Covers {K : Type 0} (bytes : K → List ℕ) (spans : List (K × Span)) (lengths : List ℕ) (number : ℕ) (token : List ℕ) : Type 0 where
+pub record Covers {K : Type 0} (bytes : K → List ℕ) (spans : List (K × Span)) (lengths : List ℕ) (number : ℕ)
+    (token : List ℕ) : Type 0 where
   pub span : Span
   pub found : span_of bytes spans token ≡ Some span
   pub above : span.first ≤ number
@@ -42,4 +43,5 @@ IsIndex index texts = AreCovered (λ key. key.items) index.spans.entries index.l
 
 -- a token occurs nowhere in a text
 abbrev pub IsAbsent : List ℕ → List ℕ → Type 0
-IsAbsent text token = (place : ℕ) → place + length token ≤ length text → take (length token) (drop place text) ≡ token → ⊥
+IsAbsent text token =
+    (place : ℕ) → place + length token ≤ length text → take (length token) (drop place text) ≡ token → ⊥

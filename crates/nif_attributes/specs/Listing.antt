@@ -13,12 +13,15 @@ parts_token pair = record { token = pair.0.now; string = pair.1.now }
 
 -- both lists have the same names of attributes of fields
 abbrev pub ListAlike : List (List ℕ) → List (List ℕ) → Type 0
-ListAlike one other = (attribute : Attribute) → list_any (bytes_eq (name_of_attribute attribute)) one ≡ list_any (bytes_eq (name_of_attribute attribute)) other
+ListAlike one other =
+    (attribute : Attribute)
+    → list_any (bytes_eq (name_of_attribute attribute)) one ≡ list_any (bytes_eq (name_of_attribute attribute)) other
 
 -- the passes by both lists of groups do the same
 abbrev pub GroupsAlike : List Group → List Group → Type 0
 GroupsAlike one other =
-    (attribute : Attribute) (text : Expanded) → fold (pass_group (name_of_attribute attribute)) text one ≡ fold (pass_group (name_of_attribute attribute)) text other
+    (attribute : Attribute) (text : Expanded) → fold (pass_group (name_of_attribute attribute)) text one
+    ≡ fold (pass_group (name_of_attribute attribute)) text other
 
 -- a token, and the names of attributes of fields in which it is
 pub record Listed : Type 0 where

@@ -5,7 +5,7 @@ use Rattle.std.specs.Prelude.{ℕ, ◌≡◌, zero, suc, ◌-◌, Bool, true, fa
 use Rattle.std.specs.Option.{is_none}
 use Rattle.std.specs.List.{filter, filter_map, fold, list_any, slice_split}
 use Rattle.std.specs.Str.{bytes_eq}
-use Rattle.nif_text.specs.Bytes.{is_blank}
+use Rattle.nif_base.specs.Ascii.{is_blank}
 use Rattle.nif_text.specs.Tree.{Tree, name_of, attrs_of, children_of}
 use Rattle.nif_attributes.specs.declared.tokens.Attribute.{Attribute}
 use Rattle.nif_attributes.specs.declared.tokens.Attribute.TheVariants as the
@@ -48,7 +48,11 @@ names_in (Some value) = slice_split is_blank value
 
 -- the group of an element named `token`; children that are refused are passed over
 abbrev pub group_of : Tree → Group
-group_of element = record { names = names_in (value_of (attrs_of element) (codes "attrs")); tokens = filter_map token_of (children_of element) }
+group_of element = record {
+  names = names_in (value_of (attrs_of element) (codes "attrs"));
+  tokens = filter_map token_of
+      (children_of element);
+}
 
 -- the groups among the children of the root
 abbrev pub groups_of : List Tree → List Group
@@ -107,4 +111,6 @@ name_of_attribute the.Userver2 = codes "userver2"
 
 -- the groups of both expand each text of each attribute of fields to the same
 abbrev pub ExpandAlike : List Group → List Group → Type 0
-ExpandAlike one other = (attribute : Attribute) (text : List ℕ) → expanded one (name_of_attribute attribute) text ≡ expanded other (name_of_attribute attribute) text
+ExpandAlike one other =
+    (attribute : Attribute) (text : List ℕ)
+    → expanded one (name_of_attribute attribute) text ≡ expanded other (name_of_attribute attribute) text

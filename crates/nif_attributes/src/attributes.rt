@@ -33,7 +33,8 @@ impl Attribute {
 /// The value of the attribute of a name. An empty value counts as missing.
 #[tactic(auto, unfolding(crate::specs::Attributes::given))]
 pub fn given<'a>(attrs: &'a Attrs, name: &[u8]) -> Option<&'a [u8]>
-    ensures { MatchOption result (given attrs.now name.now ≡ None) (λ value. given attrs.now name.now ≡ Some value.now) }
+    ensures { MatchOption result (given attrs.now name.now ≡ None)
+        (λ value. given attrs.now name.now ≡ Some value.now) }
 {
     let value = value(attrs, name)?;
     if value.is_empty() { None } else { Some(value) }
@@ -42,7 +43,8 @@ pub fn given<'a>(attrs: &'a Attrs, name: &[u8]) -> Option<&'a [u8]>
 /// The text of an attribute of a field, as it is written. The older spelling counts where the newer one is missing.
 #[tactic(auto, unfolding(crate::specs::Attributes::written))]
 pub(crate) fn written<'a>(attrs: &'a Attrs, attribute: Attribute) -> Option<&'a [u8]>
-    ensures { MatchOption result (written attrs.now attribute ≡ None) (λ text. written attrs.now attribute ≡ Some text.now) }
+    ensures { MatchOption result (written attrs.now attribute ≡ None)
+        (λ text. written attrs.now attribute ≡ Some text.now) }
 {
     if let Some(text) = given(attrs, attribute.name()) {
         return Some(text);

@@ -24,7 +24,8 @@ pub(crate) struct TokenIndex {
 /// Puts a length behind the others, unless it is there.
 fn put_length(lengths: &mut Vec<usize>, length: usize) -> Result<(), NoMemory>
     ensures here { OnOk result (list_any (nat_eq length) lengths.new.items ≡ true) }
-    ensures before { OnOk result ((other : ℕ) → list_any (nat_eq other) lengths.old.items ≡ true → list_any (nat_eq other) lengths.new.items ≡ true) }
+    ensures before { OnOk result ((other : ℕ) → list_any (nat_eq other) lengths.old.items ≡ true
+        → list_any (nat_eq other) lengths.new.items ≡ true) }
 {
     if lengths.iter().any(|other| length == *other) {
         return Ok(());
@@ -76,7 +77,8 @@ impl TokenIndex {
 
     /// Puts a token behind so many others.
     pub(crate) fn put(&mut self, alloc: Global, number: usize, token: &[u8]) -> Result<(), NoMemory>
-        ensures { OnOk result ((texts : List (List ℕ)) → length texts ≡ number → IsIndex self.old texts → IsIndex self.new (texts ++ token.now ∷ [])) }
+        ensures { OnOk result ((texts : List (List ℕ)) → length texts ≡ number → IsIndex self.old texts
+            → IsIndex self.new (texts ++ token.now ∷ [])) }
     {
         let first = self.first(token, number);
         put_length(&mut self.lengths, token.len())?;
@@ -96,7 +98,8 @@ impl TokenIndex {
         requires { from ≤ most }
         ensures low { from ≤ result }
         ensures high { result ≤ most }
-        ensures none { (texts : List (List ℕ)) → IsIndex self.now texts → (n : ℕ) → from ≤ n → n < result → slice_get texts n ≡ Some part.now → ⊥ }
+        ensures none { (texts : List (List ℕ)) → IsIndex self.now texts → (n : ℕ) → from ≤ n → n < result
+            → slice_get texts n ≡ Some part.now → ⊥ }
     {
         match self.spans.get(part) {
             Some(span) => {
@@ -115,7 +118,8 @@ impl TokenIndex {
         requires { from ≤ most }
         ensures low { from ≤ result }
         ensures high { result ≤ most }
-        ensures none { (texts : List (List ℕ)) → IsIndex self.now texts → (n : ℕ) (token : List ℕ) → from ≤ n → n < result
+        ensures none { (texts : List (List ℕ)) → IsIndex self.now texts → (n : ℕ) (token : List ℕ) → from ≤ n
+            → n < result
             → slice_get texts n ≡ Some token → length token ≡ size → IsAbsent text.now token }
     {
         if text.len() < size {
@@ -133,7 +137,8 @@ impl TokenIndex {
         requires { from ≤ most }
         ensures low { from ≤ result }
         ensures high { result ≤ most }
-        ensures none { (texts : List (List ℕ)) → IsIndex self.now texts → (n : ℕ) (token : List ℕ) → from ≤ n → n < result
+        ensures none { (texts : List (List ℕ)) → IsIndex self.now texts → (n : ℕ) (token : List ℕ) → from ≤ n
+            → n < result
             → slice_get texts n ≡ Some token → IsAbsent text.now token }
     {
         let mut best = most;

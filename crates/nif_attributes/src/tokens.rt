@@ -4,19 +4,17 @@ ghost use Rattle.std.specs.List.{list_any, filter_map, slice_split, slice_get};
 ghost use Rattle.std.specs.Option.{option_map, is_none};
 ghost use Rattle.std.specs.Str.{bytes_eq};
 ghost use Rattle.nif_text.specs.Tree.{name_of, attrs_of, children_of};
-ghost use Rattle.nif_text.specs.Bytes.{is_blank};
+ghost use Rattle.nif_base.specs.Ascii.{is_blank};
 ghost use Rattle.nif_attributes.specs.Tokens.{Group, value_of, token_of, groups_of, has_refused, names_in, replaced, name_of_attribute};
 ghost use Rattle.nif_attributes.specs.Listing.{parts_token, ListAlike, GroupsAlike};
 
 use crate::index::TokenIndex;
 use memchr::memmem;
-use nif_base::{NoMemory, Word};
+use nif_base::limits::MOST_EXPRESSION_BYTES;
+use nif_base::{NoMemory, Word, is_blank};
 use nif_text::{Attrs, Element};
 use std::alloc::Global;
 use std::marker::Model;
-
-/// The most bytes that a text may have after a pass.
-const LIMIT: usize = 4096;
 
 /// An attribute of a field, by its newer name.
 #[derive(Debug, Clone, Copy, PartialEq, Eq)]
@@ -175,17 +173,11 @@ pub fn has_refused_child(group: &Element) -> bool
     false
 }
 
-fn is_blank_byte(c: u8) -> bool
-    ensures { result ≡ is_blank c }
-{
-    c == b' ' || c == b'\t' || c == b'\n' || c == b'\r'
-}
-
 /// Whether a text lists this name, between blanks.
 fn lists_name(text: &[u8], name: &[u8]) -> bool
     ensures { result ≡ list_any (bytes_eq name.now) (slice_split is_blank text.now) }
 {
-    text.split(|c| is_blank_byte(*c)).any(|part| part == name)
+    text.split(|c| is_blank(*c)).any(|part| part == name)
 }
 
 /// Puts an item behind the others.
@@ -201,10 +193,11 @@ fn push<T: Drop>(items: &mut Vec<T>, item: T) -> Result<(), NoMemory>
 /// Puts bytes behind `out`, unless it would then have more than the most bytes. Says whether it did.
 fn push_within(out: &mut Vec<u8>, bytes: &[u8]) -> Result<bool, NoMemory>
     requires { vec_len out.old ≤ 4096 }
-    ensures put { IfOk result (λ fits. fits ≡ true → (out.new.items ≡ out.old.items ++ bytes.now) × (length out.new.items ≤ 4096)) }
+    ensures put { IfOk result (λ fits. fits ≡ true → (out.new.items ≡ out.old.items ++ bytes.now)
+        × (length out.new.items ≤ 4096)) }
     ensures full { IfOk result (λ fits. fits ≡ false → 4096 < length out.old.items + length bytes.now) }
 {
-    if bytes.len() > LIMIT - out.len() {
+    if bytes.len() > MOST_EXPRESSION_BYTES - out.len() {
         return Ok(false);
     }
     match out.extend_from_slice(bytes) {
@@ -213,7 +206,8 @@ fn push_within(out: &mut Vec<u8>, bytes: &[u8]) -> Result<bool, NoMemory>
     }
 }
 
-/// The text with the token replaced, none where it would have more than the most bytes. The time is linear in the text and the token.
+/// The text with the token replaced, none where it would have more than the most bytes. The time is linear in the text
+/// and the token.
 fn replace(
     alloc: Global,
     text: &[u8],
@@ -253,7 +247,8 @@ impl Replacement {
         attributes: &[Attribute],
         child: &Element,
     ) -> Result<Option<Replacement>, NoMemory>
-        ensures { IfOk result (λ by. by ≡ option_map (listed_as (map name_of_attribute attributes.now)) (token_of child.now)) }
+        ensures { IfOk result (λ by. by ≡ option_map (listed_as (map name_of_attribute attributes.now))
+            (token_of child.now)) }
     {
         let Some((token, string)) = parts(child) else {
             return Ok(None);
@@ -314,7 +309,8 @@ impl Replacement {
 
 /// The attributes of fields that `attrs` lists.
 fn listed(alloc: Global, attrs: Option<&[u8]>) -> Result<Vec<Attribute>, NoMemory>
-    ensures { IfOk result (λ attributes. ListAlike (map name_of_attribute attributes.items) (names_in (option_map (λ value. value.now) attrs.entry))) }
+    ensures { IfOk result (λ attributes. ListAlike (map name_of_attribute attributes.items)
+        (names_in (option_map (λ value. value.now) attrs.entry))) }
 {
     let mut attributes = Vec::new(alloc);
     let Some(text) = attrs else {
@@ -414,7 +410,7 @@ impl Tokens {
             → pass_group name text.now group ≡ text.now }
     {
         let bytes = text.text.bytes();
-        if tries > 0 || bytes.len() > LIMIT {
+        if tries > 0 || bytes.len() > MOST_EXPRESSION_BYTES {
             return at;
         }
         self.index.next(bytes, at, self.items.len())

@@ -12,8 +12,9 @@ use lib.Pointwise.{pointwise, bytes_decides}
 use Rattle.nif_base.specs.Version.{version_of}
 use Rattle.nif_schema.specs.Expression.{Tree, Number}
 use Rattle.nif_expr.specs.Value.{Names}
-use Rattle.nif_expr.specs.Bytes.{is_blank, is_letter, is_digit, is_in_name, is_in_number, is_backslash, begins, front, after, trimmed}
-use Rattle.nif_expr.specs.Digits.{is_hex_digit, number_of}
+use Rattle.nif_base.specs.Ascii.{is_blank, is_digit, is_hex_digit}
+use Rattle.nif_expr.specs.Bytes.{is_letter, is_in_name, is_in_number, is_backslash, begins, front, after, trimmed}
+use Rattle.nif_expr.specs.Digits.{number_of}
 use Rattle.nif_expr.specs.Number.{IsNumber, IsDecimal, IsHexadecimal, IsVersion}
 use Rattle.nif_expr.specs.Parts.{Part, Operand, First, sign, number, path, Joined, last, more, signs, first_sign, operand_of}
 use Rattle.nif_expr.specs.Steps.{State, Wants, step, finish}

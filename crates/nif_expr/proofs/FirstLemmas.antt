@@ -2,7 +2,8 @@
 use Rattle.std.proofs.Common.{◌≡◌, ℕ, true, false, List, Option, None, Some, sym, ap, ◌∙◌, subst}
 use Rattle.nif_schema.specs.Expression.{Tree, Number}
 use Rattle.nif_expr.specs.Value.{Names}
-use Rattle.nif_expr.specs.Bytes.{is_letter, is_digit, is_in_number, begins, front, after}
+use Rattle.nif_base.specs.Ascii.{is_digit}
+use Rattle.nif_expr.specs.Bytes.{is_letter, is_in_number, begins, front, after}
 use Rattle.nif_expr.specs.Number.{IsNumber}
 use Rattle.nif_expr.specs.Parts.{Part, Operand, First, sign, number, path, Joined, signs, first_sign, operand_of}
 use Rattle.nif_expr.proofs.OneReading.{unlike, sign-apart, plain-letter, plain-digit, letter-begins, Joined-letter}

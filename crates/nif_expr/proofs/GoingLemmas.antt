@@ -9,7 +9,8 @@ use Rattle.std.proofs.lemmas.Bool.{eqb-true}
 use Rattle.std.proofs.lemmas.Bool.Decides.{nat_tests}
 use Rattle.nif_schema.specs.Expression.{Tree, tree}
 use Rattle.nif_expr.specs.Value.{Names}
-use Rattle.nif_expr.specs.Bytes.{is_blank, is_letter, is_digit, is_in_name, is_in_number, begins, after}
+use Rattle.nif_base.specs.Ascii.{is_blank, is_digit}
+use Rattle.nif_expr.specs.Bytes.{is_letter, is_in_name, is_in_number, begins, after}
 use Rattle.nif_expr.specs.Parts.{Part, First, sign, number, path, Joined, last, more, Parts, none, blank, part, signs, first_sign}
 use Rattle.nif_expr.specs.Steps.{Frame, State, Wants, Fails, step, finish, run}
 use Rattle.nif_expr.specs.Grammar.{IsExpression}

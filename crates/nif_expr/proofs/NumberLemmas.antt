@@ -4,7 +4,8 @@ use Rattle.std.specs.Prelude.{Option, Some, None, MatchOption, IfSome, IfNone, c
 use Rattle.std.specs.List.{AllPass}
 use Rattle.std.proofs.lemmas.List.{take-append-drop}
 use lib.Pointwise.{pointwise, bytes_decides}
-use Rattle.nif_expr.specs.Digits.{number_of, is_hex_digit}
+use Rattle.nif_base.specs.Ascii.{is_hex_digit}
+use Rattle.nif_expr.specs.Digits.{number_of}
 use Rattle.nif_expr.specs.Number.{IsNumber, IsDecimal, IsHexadecimal, IsVersion}
 use Rattle.nif_expr.proofs.DigitLemmas.{hex-fits}
 

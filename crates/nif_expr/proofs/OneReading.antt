@@ -8,8 +8,9 @@ use Rattle.std.proofs.lemmas.List.Elements.{All-contains}
 use Rattle.std.proofs.lemmas.Bool.Decides.{nat_tests}
 use Rattle.nif_schema.specs.Expression.{Number}
 use Rattle.nif_expr.specs.Value.{Names}
-use Rattle.nif_expr.specs.Bytes.{is_blank, is_letter, is_digit, is_in_name, is_in_number, is_backslash, begins, front, after, trimmed}
-use Rattle.nif_expr.specs.Digits.{number_of, is_hex_digit}
+use Rattle.nif_base.specs.Ascii.{is_blank, is_digit, is_hex_digit}
+use Rattle.nif_expr.specs.Bytes.{is_letter, is_in_name, is_in_number, is_backslash, begins, front, after, trimmed}
+use Rattle.nif_expr.specs.Digits.{number_of}
 use Rattle.nif_expr.specs.Number.{IsNumber, IsDecimal, IsHexadecimal, IsVersion}
 use Rattle.nif_expr.specs.Parts.{Part, Operand, signs, first_sign, Joined, last, more, operand_of, First, sign, number, path, Parts, none, blank, part}
 

@@ -2,7 +2,8 @@
 use Rattle.std.proofs.Common.{◌≡◌, ℕ, suc, ◌+◌, ◌<◌, ◌≤◌, Bool, true, false, cond, List, [], ◌∷◌, ◌++◌, ◌⊎◌, length, refl, sym, ap, ◌∙◌, subst, arith, inl, inr, append_assoc, append-nil, length-append}
 use Rattle.std.specs.Prelude.{◌==◌, ◌||◌}
 use Rattle.nif_expr.specs.Value.{Names}
-use Rattle.nif_expr.specs.Bytes.{is_blank, is_letter, is_digit, is_in_name, is_backslash, begins, front, after, trimmed}
+use Rattle.nif_base.specs.Ascii.{is_blank, is_digit}
+use Rattle.nif_expr.specs.Bytes.{is_letter, is_in_name, is_backslash, begins, front, after, trimmed}
 use Rattle.nif_expr.specs.Parts.{Joined, last, more}
 use Rattle.nif_expr.proofs.OneReading.{unlike, Joined-letter}
 

@@ -3,7 +3,8 @@ use Rattle.std.proofs.Common.{◌≡◌, ℕ, zero, suc, ◌+◌, ◌<◌, ◌�
 use Rattle.std.proofs.Math.Seq.{take-suc}
 use Rattle.std.specs.Prelude.{reverse}
 use Rattle.std.proofs.lemmas.List.{take_more, reverse-append, reverse-reverse, take_all, drop_all}
-use Rattle.nif_expr.specs.Bytes.{is_blank, front, after, trimmed}
+use Rattle.nif_base.specs.Ascii.{is_blank}
+use Rattle.nif_expr.specs.Bytes.{front, after, trimmed}
 
 -- the first n bytes are of the class
 pub record IsRun (class : ℕ → Bool) (text : List ℕ) (n : ℕ) : Type 0 where

@@ -1,19 +1,10 @@
 -- Classes of bytes, and runs of them.
-use Rattle.std.specs.Prelude.{ℕ, Bool, false, ◌&&◌, ◌||◌, if◌then◌else◌, ◌==◌, nat_le, List, [], ◌∷◌, reverse}
-
-abbrev pub is_within : ℕ → ℕ → ℕ → Bool
-is_within low high b = nat_le low b && nat_le b high
-
--- a space, a tab, a line feed or a carriage return
-abbrev pub is_blank : ℕ → Bool
-is_blank b = b == 0x20 || b == 0x09 || b == 0x0A || b == 0x0D
+use Rattle.std.specs.Prelude.{ℕ, Bool, false, ◌||◌, if◌then◌else◌, ◌==◌, List, [], ◌∷◌, reverse}
+use Rattle.nif_base.specs.Ascii.{is_between, is_blank, is_digit}
 
 -- an ASCII letter or `_`
 abbrev pub is_letter : ℕ → Bool
-is_letter b = is_within 65 90 b || is_within 97 122 b || b == 95
-
-abbrev pub is_digit : ℕ → Bool
-is_digit b = is_within 48 57 b
+is_letter b = is_between 65 90 b || is_between 97 122 b || b == 95
 
 abbrev pub is_backslash : ℕ → Bool
 is_backslash b = b == 92

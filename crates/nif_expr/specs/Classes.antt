@@ -1,7 +1,7 @@
 -- The classes of bytes, as tests.
 use Rattle.std.specs.Prelude.{ℕ, Bool}
-use Rattle.nif_expr.specs.Bytes.{is_blank, is_letter, is_digit, is_in_name, is_in_number}
-use Rattle.nif_expr.specs.Digits.{is_hex_digit}
+use Rattle.nif_base.specs.Ascii.{is_blank, is_digit, is_hex_digit}
+use Rattle.nif_expr.specs.Bytes.{is_letter, is_in_name, is_in_number}
 use Rattle.nif_expr.specs.declared.runs.Class.{Class}
 use Rattle.nif_expr.specs.declared.runs.Class.TheVariants.{Blank, Letter, Digit, HexDigit, InName, InNumber}
 

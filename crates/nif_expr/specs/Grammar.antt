@@ -33,7 +33,8 @@ pub data Reads : ℕ → List Part → Tree → List Part → Type 0 where
   tighter : {k : ℕ} {tree : Tree} {parts rest : List Part} → Reads (suc k) parts tree rest → Reads k parts tree rest
   negation : {of : Tree} {parts rest : List Part} → Reads 10 parts of rest → Reads 10 (Negation ∷ parts) (Not of) rest
   operand : {of : Tree} {rest : List Part} → Reads 11 (Operand of ∷ rest) of rest
-  parentheses : {tree : Tree} {parts rest : List Part} → Reads 1 parts tree (Closing ∷ rest) → Reads 11 (Opening ∷ parts) tree rest
+  parentheses : {tree : Tree} {parts rest : List Part} → Reads 1 parts tree (Closing ∷ rest)
+      → Reads 11 (Opening ∷ parts) tree rest
 
 -- The text is an expression with this tree.
 pub record IsExpression (text : List ℕ) (tree : Tree) : Type 0 where

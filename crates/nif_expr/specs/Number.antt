@@ -1,8 +1,8 @@
 -- The numbers of expressions, without a sign: decimal, hexadecimal after `0x`, or a version text.
 use Rattle.std.specs.Prelude.{◌≡◌, ℕ, ◌^◌, ◌<◌, ◌≤◌, ◌⊎◌, List, ◌++◌, length, codes, Contains, Some}
 use Rattle.std.specs.List.{AllPass}
-use Rattle.nif_expr.specs.Bytes.{is_digit}
-use Rattle.nif_expr.specs.Digits.{is_hex_digit, number_of}
+use Rattle.nif_base.specs.Ascii.{is_digit, is_hex_digit}
+use Rattle.nif_expr.specs.Digits.{number_of}
 use Rattle.nif_base.specs.Version.{version_of}
 
 -- decimal digits of value below 2 ^ 64

@@ -6,7 +6,8 @@ use Rattle.nif_schema.specs.declared.exprs.Op.{Op}
 use Rattle.nif_schema.specs.declared.exprs.Op.TheVariants.{Mul, Div, Add, Sub, Shl, Shr, Lt, Le, Gt, Ge, Eq, Ne, BitAnd, BitOr, And, Or}
 use Rattle.nif_schema.specs.Expression.{Tree, Number, Arg, Path}
 use Rattle.nif_expr.specs.Value.{Names, is_same}
-use Rattle.nif_expr.specs.Bytes.{is_blank, is_letter, is_digit, is_in_name, is_in_number, is_backslash, begins, front, after, trimmed}
+use Rattle.nif_base.specs.Ascii.{is_blank, is_digit}
+use Rattle.nif_expr.specs.Bytes.{is_letter, is_in_name, is_in_number, is_backslash, begins, front, after, trimmed}
 use Rattle.nif_expr.specs.Number.{IsNumber}
 
 -- a number, path or argument as its tree; `!`; `(`; `)`; a two-sided operator
@@ -70,10 +71,12 @@ pub data First : List ℕ → Part → List ℕ → Type 0 where
 pub data Parts : List ℕ → List Part → Type 0 where
   none : Parts [] []
   blank : {b : ℕ} {text : List ℕ} {parts : List Part} → IsTrue (is_blank b) → Parts text parts → Parts (b ∷ text) parts
-  part : {text rest : List ℕ} {p : Part} {parts : List Part} → First text p rest → Parts rest parts → Parts text (p ∷ parts)
+  part : {text rest : List ℕ} {p : Part} {parts : List Part} → First text p rest → Parts rest parts
+      → Parts text (p ∷ parts)
 
 -- none of these spellings that a text begins with is longer than what was taken of it
 abbrev pub AreNotLonger : List (List ℕ × Part) → List ℕ → List ℕ → Type 0
 AreNotLonger [] text rest = Unit {0}
 AreNotLonger (entry ∷ others) text rest =
-    (starts_with nat_eq text entry.0 ≡ true → length rest + length entry.0 ≤ length text) × AreNotLonger others text rest
+    (starts_with nat_eq text entry.0 ≡ true → length rest + length entry.0 ≤ length text)
+    × AreNotLonger others text rest

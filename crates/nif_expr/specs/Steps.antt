@@ -23,7 +23,8 @@ abbrev pub reduced : ℕ → List Frame → Tree → List Frame × Tree
 reduced k [] e = ([], e)
 reduced k (Negating ∷ stack) e = reduced k stack (Not e)
 reduced k (Grouping ∷ stack) e = (Grouping ∷ stack, e)
-reduced k (Applying op left ∷ stack) e = if nat_le k (level op) then reduced k stack (Two op left e) else (Applying op left ∷ stack, e)
+reduced k (Applying op left ∷ stack) e = if nat_le k (level op) then reduced k stack (Two op left e)
+    else (Applying op left ∷ stack, e)
 
 -- an operand is wanted, or one is there, or the parts are no expression
 pub data State : Type 0 where

@@ -4,22 +4,10 @@ ghost use Rattle.std.specs.List.{AllPass};
 ghost use Rattle.std.specs.Option.{SomeIff};
 ghost use Rattle.nif_expr.specs.Classes.{holds};
 ghost use Rattle.nif_expr.specs.Digits.{number_of};
-ghost use Rattle.nif_expr.specs.Digits as digits;
 ghost use Rattle.nif_expr.specs.Number.{IsNumber, IsDecimal, IsHexadecimal, IsVersion};
 
 use crate::runs::Class;
-use nif_base::Version;
-
-/// What a digit counts.
-fn digit_of(b: u8) -> u64
-    ensures { result ≡ digits.digit_of b }
-{
-    u64::from(match b {
-        97.. => b - 87,
-        65.. => b - 55,
-        _ => b.saturating_sub(48),
-    })
-}
+use nif_base::{Version, digit_value};
 
 /// A number with one digit more, where it stays below 2^64.
 fn longer(base: u64, n: u64, digit: u64) -> Option<u64>
@@ -39,7 +27,7 @@ fn number_in(class: Class, base: u64, digits: &[u8]) -> Option<u64>
         if !class.has(*b) {
             return None;
         }
-        let Some(next) = longer(base, n, digit_of(*b)) else {
+        let Some(next) = longer(base, n, u64::from(digit_value(*b))) else {
             return None;
         };
         n = next;

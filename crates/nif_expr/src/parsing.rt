@@ -5,6 +5,7 @@ ghost use Rattle.nif_expr.specs.Grammar.{IsExpression};
 
 use crate::parts::tree_of;
 use nif_base::NoMemory;
+use nif_base::limits::MOST_EXPRESSION_BYTES;
 use nif_schema::Expr;
 use std::alloc::Global;
 use thiserror::Error;
@@ -23,9 +24,6 @@ pub enum ExprFault {
     NoMemory,
 }
 
-/// The most bytes that an expression may have.
-const MOST_BYTES: usize = 4096;
-
 /// The expression of a text, whose bytes may be any. The work grows with the length of the text, and nothing is
 /// read by recursion.
 pub fn parse(alloc: Global, text: &[u8]) -> Result<Expr, ExprFault>
@@ -35,7 +33,7 @@ pub fn parse(alloc: Global, text: &[u8]) -> Result<Expr, ExprFault>
     ensures not_an_expression { IsErrOf result ExprFault.NotAnExpression →
         (length text.now ≤ 4096) × ((t : Tree) → IsExpression text.now t → ⊥) }
 {
-    if text.len() > MOST_BYTES {
+    if text.len() > MOST_EXPRESSION_BYTES {
         return Err(ExprFault::TooLong);
     }
     match tree_of(alloc, text) {

@@ -3,7 +3,8 @@ ghost use Rattle.std.specs.Prelude.{◌≡◌, ◌∷◌, false, true, ℕ, ◌�
 ghost use Rattle.nif_schema.specs.Expression as spec;
 ghost use Rattle.nif_schema.specs.Expression.{tree, Tree};
 ghost use Rattle.nif_expr.specs.Value.{Names};
-ghost use Rattle.nif_expr.specs.Bytes.{begins, is_letter, is_digit, is_blank, is_backslash};
+ghost use Rattle.nif_base.specs.Ascii.{is_digit, is_blank};
+ghost use Rattle.nif_expr.specs.Bytes.{begins, is_letter, is_backslash};
 ghost use Rattle.nif_expr.specs.Parts.{Part, Joined, First, operand_of};
 ghost use Rattle.nif_expr.specs.Grammar.{IsExpression};
 ghost use Rattle.nif_expr.specs.Kept.{part_of, IsFirst};

@@ -4,6 +4,8 @@ ghost use Rattle.nif_expr.specs.Bytes.{front, after};
 ghost use Rattle.nif_expr.specs.Bytes as bytes;
 ghost use Rattle.nif_expr.specs.Classes.{holds};
 
+use nif_base::{is_blank, is_digit, is_hex_digit};
+
 /// A class of bytes.
 #[derive(Clone, Copy)]
 pub(crate) enum Class {
@@ -15,20 +17,26 @@ pub(crate) enum Class {
     InNumber,
 }
 
+fn is_letter(b: u8) -> bool
+    ensures { result ≡ bytes.is_letter b }
+{
+    matches!(b, b'A'..=b'Z' | b'a'..=b'z' | b'_')
+}
+
 impl Class {
     /// Whether a byte is of the class.
     pub(crate) fn has(self, b: u8) -> bool
         ensures { result ≡ holds self b }
     {
         match self {
-            Class::Blank => matches!(b, b' ' | b'\t' | b'\n' | b'\r'),
-            Class::Letter => matches!(b, b'A'..=b'Z' | b'a'..=b'z' | b'_'),
-            Class::Digit => matches!(b, b'0'..=b'9'),
-            Class::HexDigit => matches!(b, b'0'..=b'9' | b'a'..=b'f' | b'A'..=b'F'),
+            Class::Blank => is_blank(b),
+            Class::Letter => is_letter(b),
+            Class::Digit => is_digit(b),
+            Class::HexDigit => is_hex_digit(b),
             Class::InName => {
-                matches!(b, b'A'..=b'Z' | b'a'..=b'z' | b'_' | b'0'..=b'9' | b'?' | b':' | b'\'' | b' ' | b'\t' | b'\n' | b'\r')
+                is_letter(b) || is_digit(b) || b == b'?' || b == b':' || b == b'\'' || is_blank(b)
             }
-            Class::InNumber => matches!(b, b'A'..=b'Z' | b'a'..=b'z' | b'_' | b'0'..=b'9' | b'.'),
+            Class::InNumber => is_letter(b) || is_digit(b) || b == b'.',
         }
     }
 

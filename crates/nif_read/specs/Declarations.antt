@@ -53,29 +53,35 @@ name_in attrs = given attrs (codes "name")
 -- A bit member is at a `pos` of 0 to 63 and has a `width` of 1 to 64, both decimal; otherwise it is bad.
 abbrev pub placed : Text → Option ℕ → Option ℕ → BitMember
 placed name (Some pos) (Some width) =
-    if nat_le 1 width then record { name = name; pos = pos; width = width; bad = false } else record { name = name; pos = 0; width = 0; bad = true }
+    if nat_le 1 width then record { name = name; pos = pos; width = width; bad = false }
+    else record { name = name; pos = 0; width = 0; bad = true }
 placed name _ _ = record { name = name; pos = 0; width = 0; bad = true }
 
 unfoldable pub member_of : Attrs → BitMember
-member_of attrs = placed (unwrap_or (name_in attrs) []) (option_and_then (decimal 63) (given attrs (codes "pos"))) (option_and_then (decimal 64) (given attrs (codes "width")))
+member_of attrs = placed (unwrap_or (name_in attrs) []) (option_and_then (decimal 63) (given attrs (codes "pos")))
+    (option_and_then (decimal 64) (given attrs (codes "width")))
 
 -- A block type is abstract where it says `true` or `1`.
 unfoldable pub is_abstract : Attrs → Bool
-is_abstract attrs = let text = unwrap_or (given attrs (codes "abstract")) [] in bytes_eq text (codes "true") || bytes_eq text (codes "1")
+is_abstract attrs = let text = unwrap_or (given attrs (codes "abstract")) [] in bytes_eq text (codes "true")
+    || bytes_eq text (codes "1")
 
 -- what an element declares
 abbrev pub what_of : Form → Attrs → List Tree → What
 what_of Basic attrs children = what.Basic (leaf_of (unwrap_or (name_in attrs) []) (given attrs (codes "size")))
 what_of Enum attrs children = what.Stored (given attrs (codes "storage")) []
-what_of Bitfield attrs children = what.Stored (given attrs (codes "storage")) (map (λ child. member_of (attrs_of child)) (members_in Bitfield children))
+what_of Bitfield attrs children = what.Stored (given attrs (codes "storage"))
+    (map (λ child. member_of (attrs_of child)) (members_in Bitfield children))
 what_of Struct attrs children = what.Struct
 what_of Block attrs children = what.Block (given attrs (codes "inherit")) (is_abstract attrs)
 
 -- A declaration by its element. `replaced` is the replacement of tokens in the attributes of fields.
-pub record IsDeclaration (replaced : Attribute → Text → Expanded) (form : Form) (element : Tree) (d : Declaration) : Type 0 where
+pub record IsDeclaration (replaced : Attribute → Text → Expanded) (form : Form) (element : Tree)
+    (d : Declaration) : Type 0 where
   pub name : name_in (attrs_of element) ≡ Some d.name
   pub what : what_of form (attrs_of element) (children_of element) ≡ d.what
-  pub fields : AllZip (λ child. IsField (text_of replaced (attrs_of child))) (fields_in form (children_of element)) d.fields
+  pub fields : AllZip (λ child. IsField (text_of replaced (attrs_of child)))
+      (fields_in form (children_of element)) d.fields
 
 -- whether a field lacks its name or its type, or a bit member its name
 unfoldable pub has_nameless : (Attribute → Text → Expanded) → Form → Tree → Bool

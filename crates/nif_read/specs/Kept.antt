@@ -51,7 +51,8 @@ pub record HasTypes (text : Attribute → Option Expanded) (t : Types) : Type 0 
 -- the name and the type of a field, or none where it lacks one of them
 abbrev pub HasNames : (Attribute → Option Expanded) → Option (Text × Text) → Type 0
 HasNames text None = IsTrue (is_nameless text)
-HasNames text (Some names) = (is_nameless text ≡ false) × (plain (text the.Name) ≡ Some names.0) × (plain (text the.Type) ≡ Some names.1)
+HasNames text (Some names) =
+    (is_nameless text ≡ false) × (plain (text the.Name) ≡ Some names.0) × (plain (text the.Type) ≡ Some names.1)
 
 -- the field of these texts, or none where it lacks its name or its type
 abbrev pub FieldRead : (Attribute → Option Expanded) → Option kept.Field → Type 0
@@ -81,7 +82,8 @@ abbrev pub OwnFieldsRead : (Attribute → Text → Expanded) → Form → Tree �
 OwnFieldsRead replacing form element None = IsTrue (list_any (lacks replacing) (fields_in form (children_of element)))
 OwnFieldsRead replacing form element (Some fields) =
     (list_any (lacks replacing) (fields_in form (children_of element)) ≡ false)
-    × AllZip (λ child. IsField (text_of replacing (attrs_of child))) (fields_in form (children_of element)) (map field fields)
+    × AllZip (λ child. IsField (text_of replacing (attrs_of child))) (fields_in form (children_of element))
+    (map field fields)
 
 -- the leaf of a basic suits its name
 abbrev pub HasLeaf : Text → What → Type 0
@@ -92,7 +94,8 @@ HasLeaf name (what.Block parent is_abstract) = Unit {0}
 
 -- what an element of a name declares, or none where a bit member of it lacks its name
 abbrev pub WhatRead : Form → Text → Tree → Option What → Type 0
-WhatRead form name element None = IsTrue (list_any (λ child. is_none (name_in (attrs_of child))) (members_in form (children_of element)))
+WhatRead form name element None =
+    IsTrue (list_any (λ child. is_none (name_in (attrs_of child))) (members_in form (children_of element)))
 WhatRead form name element (Some declared) =
     (list_any (λ child. is_none (name_in (attrs_of child))) (members_in form (children_of element)) ≡ false)
     × (what_of form (attrs_of element) (children_of element) ≡ declared) × HasLeaf name declared
@@ -101,15 +104,18 @@ WhatRead form name element (Some declared) =
 abbrev pub DeclarationRead : (Attribute → Text → Expanded) → Form → Tree → Option Decl → Type 0
 DeclarationRead replacing form element None = IsTrue (has_nameless replacing form element)
 DeclarationRead replacing form element (Some decl) =
-    (has_nameless replacing form element ≡ false) × IsDeclaration replacing form element (declaration decl) × HasItsLeaf (declaration decl)
+    (has_nameless replacing form element ≡ false) × IsDeclaration replacing form element (declaration decl)
+    × HasItsLeaf (declaration decl)
 
 -- The step from one schema to the next at a child of the root, where there is no fault.
 abbrev pub StepAs : (Attribute → Text → Expanded) → Tree → Schema → Schema → Option Form → Type 0
 StepAs replacing child old new None = new ≡ old
-StepAs replacing child old new (Some form) = (d : Declaration) × IsDeclaration replacing form child d × (new ≡ old ++ d ∷ [])
+StepAs replacing child old new (Some form) =
+    (d : Declaration) × IsDeclaration replacing form child d × (new ≡ old ++ d ∷ [])
 
 -- What a child of the root does to a schema: a step, or its fault.
-pub record Stepped (replacing : Attribute → Text → Expanded) (number : ℕ) (child : Tree) (old new : Schema) : Type 0 where
+pub record Stepped (replacing : Attribute → Text → Expanded) (number : ℕ) (child : Tree)
+    (old new : Schema) : Type 0 where
   pub sound : fault_at replacing (map (λ d. d.name) old) number child ≡ None
   pub step : StepAs replacing child old new (form_of (name_of child))
 

@@ -32,7 +32,8 @@ group_fault number child = if is_group child && has_refused child then Some (fau
 
 -- The fault of a child of the root, where `earlier` are the names declared before it.
 abbrev pub fault_as : (Attribute → Text → Expanded) → List Text → ℕ → Tree → Option Form → Option SchemaFault
-fault_as replaced earlier number child (Some form) = fault_under (name_in (attrs_of child)) earlier number (has_nameless replaced form child)
+fault_as replaced earlier number child (Some form) =
+    fault_under (name_in (attrs_of child)) earlier number (has_nameless replaced form child)
 fault_as replaced earlier number child None = group_fault number child
 
 unfoldable pub fault_at : (Attribute → Text → Expanded) → List Text → ℕ → Tree → Option SchemaFault
@@ -50,7 +51,8 @@ names_by child = declared_by (form_of (name_of child)) (name_in (attrs_of child)
 abbrev pub first_fault : (Attribute → Text → Expanded) → List Text → ℕ → List Tree → Option SchemaFault
 first_fault replaced earlier number [] = None
 first_fault replaced earlier number (child ∷ children) =
-    option_or (fault_at replaced earlier number child) (first_fault replaced (earlier ++ names_by child) (number + 1) children)
+    option_or (fault_at replaced earlier number child)
+    (first_fault replaced (earlier ++ names_by child) (number + 1) children)
 
 -- how tokens are replaced in a tree: its groups reach every field
 abbrev pub replaced_in : Tree → Attribute → Text → Expanded
@@ -68,7 +70,8 @@ declaring children = filter_map (λ child. option_map (λ form. (form, child)) (
 
 -- The schema is their declarations, in order. What declares nothing is passed over.
 abbrev pub AreDeclared : (Attribute → Text → Expanded) → List Tree → Schema → Type 0
-AreDeclared replaced children schema = AllZip (λ entry. IsDeclaration replaced entry.0 entry.1) (declaring children) schema
+AreDeclared replaced children schema =
+    AllZip (λ entry. IsDeclaration replaced entry.0 entry.1) (declaring children) schema
 
 -- A tree without a fault declares the schema of its children.
 pub record Declares (root : Tree) (schema : Schema) : Type 0 where

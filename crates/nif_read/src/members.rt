@@ -26,7 +26,8 @@ fn number(attrs: &Attrs, name: &[u8], most: u32) -> Option<u32>
 /// The bit member of these attributes, or none where it lacks its name.
 #[tactic(auto, unfolding(crate::specs::Declarations::member_of))]
 fn member(alloc: Global, attrs: &Attrs) -> Result<Option<BitMember>, NoMemory>
-    ensures { IfOk result (λ read. MatchOption read (name_in attrs.now ≡ None) (λ member. (name_in attrs.now ≡ Some member.name) × (member_of attrs.now ≡ member))) }
+    ensures { IfOk result (λ read. MatchOption read (name_in attrs.now ≡ None)
+        (λ member. (name_in attrs.now ≡ Some member.name) × (member_of attrs.now ≡ member))) }
 {
     let Some(name) = given(attrs, b"name") else {
         return Ok(None);

@@ -40,9 +40,11 @@ fn declare(
 ) -> Result<(), SchemaFault>
     requires few { length (children_of child.now) < 2 ^ 32 }
     requires room { length schema.old < 2 ^ 32 - 1 }
-    ensures sound { OnOk result (fault_as (replaced_by tokens.now) (map (λ d. d.name) schema.old) number child.now (Some form) ≡ None) }
+    ensures sound { OnOk result (fault_as (replaced_by tokens.now) (map (λ d. d.name) schema.old) number child.now
+        (Some form) ≡ None) }
     ensures step { OnOk result (StepAs (replaced_by tokens.now) child.now schema.old schema.new (Some form)) }
-    ensures err { IfErr result (IsFaultOf (fault_as (replaced_by tokens.now) (map (λ d. d.name) schema.old) number child.now (Some form))) }
+    ensures err { IfErr result (IsFaultOf (fault_as (replaced_by tokens.now)
+        (map (λ d. d.name) schema.old) number child.now (Some form))) }
 {
     let Some(name) = given(attrs_of(child), b"name") else {
         return Err(SchemaFault::MissingName { element: number });
@@ -74,7 +76,8 @@ fn child(
     requires few { length (children_of child.now) < 2 ^ 32 }
     requires room { length schema.old < 2 ^ 32 - 1 }
     ensures ok { OnOk result (Stepped (replaced_by tokens.now) number child.now schema.old schema.new) }
-    ensures err { IfErr result (IsFaultOf (fault_at (replaced_by tokens.now) (map (λ d. d.name) schema.old) number child.now)) }
+    ensures err { IfErr result (IsFaultOf (fault_at (replaced_by tokens.now)
+        (map (λ d. d.name) schema.old) number child.now)) }
 {
     match form_of(name_of(child)) {
         Some(form) => declare(alloc, tokens, number, form, child, schema),

@@ -2,7 +2,8 @@
 use Rattle.std.proofs.Common.{ℕ, ◌+◌, ◌≡◌, ◌≤◌, true, false, Err, List, [], ◌∷◌, length, refl, sym, ◌∙◌, ap, subst, arith, length-append}
 use Rattle.std.proofs.lemmas.Bool.Decides.{nat_tests}
 use Rattle.nif_text.specs.Parts.{Many, Byte}
-use Rattle.nif_text.specs.Bytes.{is_blank, is_name_start, is_name_byte, Name, SomeBlanks}
+use Rattle.nif_base.specs.Ascii.{is_blank}
+use Rattle.nif_text.specs.Bytes.{is_name_start, is_name_byte, Name, SomeBlanks}
 use Rattle.nif_text.specs.Attributes.{Assigned, Attribute}
 use Rattle.nif_text.specs.Reading.{Never, NoBracket, Longest, Read, AttributeRead}
 use Rattle.nif_text.specs.declared.stop.Stop.{Stop}

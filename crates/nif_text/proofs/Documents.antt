@@ -2,7 +2,7 @@
 use Rattle.std.proofs.Common.{ℕ, ◌≡◌, ◌≤◌, Bool, true, false, IsTrue, ◌⊎◌, inl, inr, Option, Some, None, Ok, Err, List, [], ◌∷◌, ◌++◌, length, refl, sym, ◌∙◌, ap, subst, arith, codes, length-append}
 use Rattle.nif_text.specs.Tree.{Tree, Node, trees, listed, children_of}
 use Rattle.nif_text.specs.Parts.{Many, Byte, Literal, Optional}
-use Rattle.nif_text.specs.Bytes.{is_blank}
+use Rattle.nif_base.specs.Ascii.{is_blank}
 use Rattle.nif_text.specs.Comments.{Comment, Declaration, DocumentType}
 use Rattle.nif_text.specs.Elements.{Start, StartOf, Finish, Piece, children_among, Nested}
 use Rattle.nif_text.specs.Documents.{Mark, Aside, TypeAndAsides, Before, Written, IsAfter, Unwritten, IfNotWritten}

@@ -2,7 +2,8 @@
 use Rattle.std.proofs.Common.{ℕ, zero, suc, ◌+◌, ◌≤◌, inl, inr, Bool, true, false, Option, Some, None, List, [], ◌∷◌, ◌++◌, length, ap, arith, codes, length-append}
 use Rattle.nif_text.specs.Tree.{Tree, trees, elements, elements_in}
 use Rattle.nif_text.specs.Parts.{Many, Byte, Literal, Optional}
-use Rattle.nif_text.specs.Bytes.{is_blank, is_name_byte, Name, Blanks}
+use Rattle.nif_base.specs.Ascii.{is_blank}
+use Rattle.nif_text.specs.Bytes.{is_name_byte, Name, Blanks}
 use Rattle.nif_text.specs.Attributes.{ValuePart, Quoted, Value, Assigned, Attribute}
 use Rattle.nif_text.specs.Comments.{Enclosed, Comment, Declaration, DocumentType, is_type_byte}
 use Rattle.nif_text.specs.Elements.{bracket, Start, Finish, PassedOver, Piece, children_among, Spelled, Empty, Full, Nested}

@@ -3,7 +3,8 @@ use Rattle.std.proofs.Common.{ℕ, ◌+◌, ◌*◌, ◌≡◌, ◌≤◌, ◌<�
 use Rattle.std.proofs.Math.Nat.{mul-le-mul_left}
 use Rattle.std.proofs.lemmas.Bool.Decides.{nat_tests}
 use Rattle.nif_text.specs.Parts.{Many, Byte}
-use Rattle.nif_text.specs.References.{digit_value, number, is_character, Number}
+use Rattle.nif_base.specs.Ascii.{digit_value}
+use Rattle.nif_text.specs.References.{number, is_character, Number}
 use Rattle.nif_text.specs.Bases.{base_of, is_digit, IsCapped}
 use Rattle.nif_text.specs.declared.reference.Base.{Base}
 use Rattle.nif_text.specs.declared.reference.Base.TheVariants.{Ten, Sixteen}

@@ -1,7 +1,8 @@
 -- Bytes, blanks and names are read in one way only.
 use Rattle.std.proofs.Common.{ℕ, ◌≡◌, Bool, true, false, List, [], ◌∷◌, ◌++◌, sym, ◌∙◌, ap, subst}
 use Rattle.nif_text.specs.Parts.{Many, Byte, Literal, After}
-use Rattle.nif_text.specs.Bytes.{is_blank, is_name_start, is_name_byte, Name, Spaced}
+use Rattle.nif_base.specs.Ascii.{is_blank}
+use Rattle.nif_text.specs.Bytes.{is_name_start, is_name_byte, Name, Spaced}
 use Rattle.nif_text.specs.Reading.{Never, Longest}
 use Rattle.nif_text.proofs.Runs.{Single, longest_same}
 

@@ -1,7 +1,8 @@
 -- Starts and ends are read in one way only.
 use Rattle.std.proofs.Common.{ℕ, ◌≡◌, Bool, true, false, Err, List, [], ◌∷◌, ◌++◌, map, refl, sym, ◌∙◌, subst, codes}
 use Rattle.nif_text.specs.Parts.{Many, Byte, Literal}
-use Rattle.nif_text.specs.Bytes.{is_blank, is_name_byte, Name}
+use Rattle.nif_base.specs.Ascii.{is_blank}
+use Rattle.nif_text.specs.Bytes.{is_name_byte, Name}
 use Rattle.nif_text.specs.Attributes.{Attribute}
 use Rattle.nif_text.specs.Elements.{bracket, AllDiffer, Start, StartOf, Finish}
 use Rattle.nif_text.specs.Reading.{Never, NoLiteral, NoBracket, Longest, AttributesRead, Read}

@@ -2,7 +2,8 @@
 use Rattle.std.proofs.Common.{ℕ, ◌≡◌, inl, inr, Result, Ok, Err, List, [], ◌∷◌, ◌++◌, refl, sym, ◌∙◌, ap, subst, append_assoc, append-nil}
 use Rattle.std.specs.Char.{encode_utf8}
 use Rattle.nif_text.specs.Parts.{Byte, Literal, After}
-use Rattle.nif_text.specs.Bytes.{is_blank, Spaced}
+use Rattle.nif_base.specs.Ascii.{is_blank}
+use Rattle.nif_text.specs.Bytes.{Spaced}
 use Rattle.nif_text.specs.References.{Reference}
 use Rattle.nif_text.specs.Attributes.{is_value_byte, kept, ValuePart, joined, Quoted, Value, Assigned}
 use Rattle.nif_text.specs.Reading.{Never, NoLiteral, Longest, Read, IsQuote}

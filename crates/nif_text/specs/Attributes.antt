@@ -2,7 +2,8 @@
 use Rattle.std.specs.Prelude.{ℕ, ◌≡◌, Bool, not, ◌&&◌, ◌==◌, ◌⊎◌, if◌then◌else◌, List, [], ◌∷◌, ◌++◌}
 use Rattle.std.specs.Char.{encode_utf8}
 use Rattle.nif_text.specs.Parts.{Many, Byte, After}
-use Rattle.nif_text.specs.Bytes.{is_blank, is_allowed, Name, SomeBlanks, Spaced}
+use Rattle.nif_base.specs.Ascii.{is_blank}
+use Rattle.nif_text.specs.Bytes.{is_allowed, Name, SomeBlanks, Spaced}
 use Rattle.nif_text.specs.References.{Reference}
 
 -- A byte of a value stands for itself unless it is `<`, `&` or the value's own quote.
@@ -16,7 +17,8 @@ kept c = if is_blank c then 0x20 else c
 -- A part of a value is a byte, or a reference, which stands for the UTF-8 bytes of its character as they are.
 abbrev pub ValuePart : ℕ → List ℕ → List ℕ → List ℕ → Type 0
 ValuePart quote bytes text rest =
-    ((c : ℕ) × Byte (is_value_byte quote) c text rest × (bytes ≡ kept c ∷ [])) ⊎ ((c : ℕ) × Reference c text rest × (bytes ≡ encode_utf8 c))
+    ((c : ℕ) × Byte (is_value_byte quote) c text rest × (bytes ≡ kept c ∷ []))
+    ⊎ ((c : ℕ) × Reference c text rest × (bytes ≡ encode_utf8 c))
 
 -- the parts of a value joined
 abbrev pub joined : List (List ℕ) → List ℕ
@@ -25,11 +27,13 @@ joined (part ∷ parts) = part ++ joined parts
 
 -- the parts, and the quote that ends them
 abbrev pub Quoted : ℕ → List ℕ → List ℕ → List ℕ → Type 0
-Quoted quote value text rest = (parts : List (List ℕ)) × (value ≡ joined parts) × Many (ValuePart quote) parts text (quote ∷ rest)
+Quoted quote value text rest =
+    (parts : List (List ℕ)) × (value ≡ joined parts) × Many (ValuePart quote) parts text (quote ∷ rest)
 
 -- A value stands in `"` or in `'`.
 abbrev pub Value : List ℕ → List ℕ → List ℕ → Type 0
-Value value text rest = After (0x22 ∷ []) (Quoted 0x22) value text rest ⊎ After (0x27 ∷ []) (Quoted 0x27) value text rest
+Value value text rest =
+    After (0x22 ∷ []) (Quoted 0x22) value text rest ⊎ After (0x27 ∷ []) (Quoted 0x27) value text rest
 
 -- The value of an attribute stands behind `=`, with blanks or none before and behind it.
 abbrev pub Assigned : List ℕ → List ℕ → List ℕ → Type 0

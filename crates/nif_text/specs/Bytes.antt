@@ -1,14 +1,7 @@
 -- The kinds of bytes, blanks and names.
-use Rattle.std.specs.Prelude.{ℕ, Bool, ◌&&◌, ◌||◌, ◌==◌, nat_le, List, [], ◌∷◌}
+use Rattle.std.specs.Prelude.{ℕ, Bool, ◌||◌, ◌==◌, nat_le, List, [], ◌∷◌}
+use Rattle.nif_base.specs.Ascii.{is_between, is_blank, is_digit}
 use Rattle.nif_text.specs.Parts.{Many, Byte}
-
--- from one byte to another, both included
-abbrev pub is_between : ℕ → ℕ → ℕ → Bool
-is_between low high c = nat_le low c && nat_le c high
-
--- A blank is a space, a tab, a line feed or a carriage return.
-abbrev pub is_blank : ℕ → Bool
-is_blank c = (c == 0x20) || (c == 0x09) || (c == 0x0A) || (c == 0x0D)
 
 -- No byte below 0x20 but a blank stands anywhere.
 abbrev pub is_allowed : ℕ → Bool
@@ -20,11 +13,12 @@ is_name_start c = is_between 0x61 0x7A c || is_between 0x41 0x5A c || (c == 0x5F
 
 -- and goes on with these, digits, `-` and `.`
 abbrev pub is_name_byte : ℕ → Bool
-is_name_byte c = is_name_start c || is_between 0x30 0x39 c || (c == 0x2D) || (c == 0x2E)
+is_name_byte c = is_name_start c || is_digit c || (c == 0x2D) || (c == 0x2E)
 
 abbrev pub Name : List ℕ → List ℕ → List ℕ → Type 0
 Name [] text rest = ⊥
-Name (first ∷ more) text rest = (next : List ℕ) × Byte is_name_start first text next × Many (Byte is_name_byte) more next rest
+Name (first ∷ more) text rest =
+    (next : List ℕ) × Byte is_name_start first text next × Many (Byte is_name_byte) more next rest
 
 -- any number of blanks
 abbrev pub Blanks : List ℕ → List ℕ → Type 0

@@ -63,7 +63,8 @@ back_pairs-code (p ∷ ps) = λ i. (back_bytes-code p.0 i, back_bytes-code p.1 i
 
 mutual
   pub back-code : (tree : Tree) → back (code tree) ≡ tree
-  back-code (Node name attrs children) = λ i. Node (back_bytes-code name i) (back_pairs-code attrs i) (back_all-code children i)
+  back-code (Node name attrs children) = λ i. Node (back_bytes-code name i) (back_pairs-code attrs i)
+      (back_all-code children i)
 
   pub back_all-code : (all : Trees) → back_all (code_all all) ≡ all
   back_all-code End = refl

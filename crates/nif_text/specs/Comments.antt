@@ -24,4 +24,6 @@ abbrev pub is_type_byte : ℕ → Bool
 is_type_byte c = is_allowed c && not (c == 0x5B) && not (c == 0x3C) && not (c == 0x3E)
 
 abbrev pub DocumentType : List ℕ → List ℕ → Type 0
-DocumentType text rest = (next : List ℕ) × Literal (codes "<!DOCTYPE") text next × (inside : List ℕ) × Many (Byte is_type_byte) inside next (0x3E ∷ rest)
+DocumentType text rest =
+    (next : List ℕ) × Literal (codes "<!DOCTYPE") text next × (inside : List ℕ)
+    × Many (Byte is_type_byte) inside next (0x3E ∷ rest)

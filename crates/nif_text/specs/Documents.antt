@@ -2,7 +2,7 @@
 use Rattle.std.specs.Prelude.{ℕ, ◌≡◌, ◌≤◌, false, ◌⊎◌, Option, List, [], ◌∷◌, length}
 use Rattle.nif_text.specs.Tree.{Tree}
 use Rattle.nif_text.specs.Parts.{Many, Byte, Literal, Optional}
-use Rattle.nif_text.specs.Bytes.{is_blank}
+use Rattle.nif_base.specs.Ascii.{is_blank}
 use Rattle.nif_text.specs.Comments.{Comment, Declaration, DocumentType}
 use Rattle.nif_text.specs.declared.tree.TextFault.{TextFault}
 use Rattle.nif_text.specs.declared.tree.TextFault.TheVariants as faults
@@ -23,7 +23,8 @@ Asides text rest = (times : List (Unit {0})) × Many (λ _. Aside) times text re
 abbrev pub TypeAndAsides : List ℕ → List ℕ → Type 0
 TypeAndAsides text rest = (next : List ℕ) × DocumentType text next × Asides next rest
 
--- What may stand before the root: a byte order mark or none, a declaration or none, and then blanks, comments and at most one document type.
+-- What may stand before the root: a byte order mark or none, a declaration or none, and then blanks, comments and at
+-- most one document type.
 pub record Before (text rest : List ℕ) : Type 0 where
   pub declaration_at : List ℕ
   pub asides_at : List ℕ

@@ -47,7 +47,8 @@ is_text_byte c = is_allowed c && not (c == 0x3C) && not (c == 0x26)
 
 -- A byte of text, a reference and a comment are passed over.
 abbrev pub PassedOver : List ℕ → List ℕ → Type 0
-PassedOver text rest = ((c : ℕ) × Byte is_text_byte c text rest) ⊎ (((c : ℕ) × Reference c text rest) ⊎ Comment text rest)
+PassedOver text rest =
+    ((c : ℕ) × Byte is_text_byte c text rest) ⊎ (((c : ℕ) × Reference c text rest) ⊎ Comment text rest)
 
 -- A piece of content is a child, or what is passed over.
 abbrev pub Piece : (Tree → List ℕ → List ℕ → Type 0) → Option Tree → List ℕ → List ℕ → Type 0
@@ -66,7 +67,8 @@ pub data Spelled (Child : Tree → List ℕ → List ℕ → Type 0) : Tree → 
       Start name attrs true text rest → Spelled Child (Node name attrs End) text rest
   Full : {name : List ℕ} {attrs : List (List ℕ × List ℕ)} {children : Trees} {text rest : List ℕ} →
       (content_at finish_at : List ℕ) (pieces : List (Option Tree)) →
-      Start name attrs false text content_at → Many (Piece Child) pieces content_at finish_at → Finish name finish_at rest →
+      Start name attrs false text content_at → Many (Piece Child) pieces content_at finish_at
+      → Finish name finish_at rest →
       children ≡ trees (children_among pieces) → Spelled Child (Node name attrs children) text rest
 
 -- an element that nests at most so many levels deep, itself counted

@@ -1,6 +1,7 @@
 -- The kinds of bytes that stand in runs.
 use Rattle.std.specs.Prelude.{ℕ, Bool}
-use Rattle.nif_text.specs.Bytes.{is_blank, is_name_byte}
+use Rattle.nif_base.specs.Ascii.{is_blank}
+use Rattle.nif_text.specs.Bytes.{is_name_byte}
 use Rattle.nif_text.specs.Comments.{is_type_byte}
 use Rattle.nif_text.specs.Elements.{is_text_byte}
 use Rattle.nif_text.specs.declared.cursor.Kind.{Kind}

@@ -2,7 +2,8 @@
 use Rattle.std.specs.Prelude.{ℕ, ◌+◌, List, [], ◌∷◌, max}
 
 mutual
-  -- An element has a name, its attributes in their order, each a name and a value, and the elements that stand right in it.
+  -- An element has a name, its attributes in their order, each a name and a value, and the elements that stand right
+  -- in it.
   pub data Tree : Type 0 where
     Node : (name : List ℕ) → (attrs : List (List ℕ × List ℕ)) → (children : Trees) → Tree
 

@@ -1,10 +1,12 @@
 //! A place in a text, and the steps that go on from it.
 ghost use Rattle.std.specs.Prelude.{◌≡◌, ℕ, ◌+◌, ◌^◌, ◌<◌, ◌≤◌, Bool, false, List, [], ◌∷◌, ◌++◌, length, IsTrue, IfSome, IfNone, OnSome, if◌then◌else◌};
 ghost use Rattle.nif_text.specs.Parts.{Many, Byte, Literal};
-ghost use Rattle.nif_text.specs.Bytes.{is_blank, is_allowed, is_name_start, is_name_byte, Name};
+ghost use Rattle.nif_base.specs.Ascii.{is_blank};
+ghost use Rattle.nif_text.specs.Bytes.{is_allowed, is_name_start, is_name_byte, Name};
 ghost use Rattle.nif_text.specs.Reading.{Never, NoLiteral, Longest};
 ghost use Rattle.nif_text.specs.Kinds.{passes};
 
+use nif_base::is_blank;
 use std::marker::Model;
 
 /// What is left of a text of at most 2^22 bytes.
@@ -32,16 +34,10 @@ pub enum Kind {
     Text,
 }
 
-fn is_blank_byte(c: u8) -> bool
-    ensures { result ≡ is_blank c }
-{
-    c == b' ' || c == b'\t' || c == b'\n' || c == b'\r'
-}
-
 pub fn is_allowed_byte(c: u8) -> bool
     ensures { result ≡ is_allowed c }
 {
-    c >= 0x20 || is_blank_byte(c)
+    c >= 0x20 || is_blank(c)
 }
 
 pub fn begins_name(c: u8) -> bool
@@ -55,7 +51,7 @@ impl Kind {
         ensures { result ≡ passes self c }
     {
         match self {
-            Kind::Blank => is_blank_byte(c),
+            Kind::Blank => is_blank(c),
             Kind::Name => begins_name(c) || c.is_ascii_digit() || c == b'-' || c == b'.',
             Kind::Type => is_allowed_byte(c) && c != b'[' && c != b'<' && c != b'>',
             Kind::Text => is_allowed_byte(c) && c != b'<' && c != b'&',

@@ -41,7 +41,8 @@ fn asides(text: &mut Cursor<'_>)
 /// Goes over a declaration where one comes next. False where one begins and does not end.
 fn declared(text: &mut Cursor<'_>) -> bool
     ensures yes { IsTrue result → Optional Declaration text.old text.new }
-    ensures only { (next : List ℕ) → Optional Declaration text.old next → NoDeclaration next → (result ≡ true) × (text.new ≡ next) }
+    ensures only { (next : List ℕ) → Optional Declaration text.old next → NoDeclaration next → (result ≡ true)
+        × (text.new ≡ next) }
     ensures shorter { length text.new ≤ length text.old }
 {
     if !text.begins(b"<?xml") {
@@ -53,7 +54,8 @@ fn declared(text: &mut Cursor<'_>) -> bool
 /// Goes over a document type, and what stands behind it, where one comes next. False where one begins and does not end.
 fn typed(text: &mut Cursor<'_>) -> bool
     ensures yes { IsTrue result → Optional TypeAndAsides text.old text.new }
-    ensures only { (next : List ℕ) → Optional TypeAndAsides text.old next → Begins next → (result ≡ true) × (text.new ≡ next) }
+    ensures only { (next : List ℕ) → Optional TypeAndAsides text.old next → Begins next → (result ≡ true)
+        × (text.new ≡ next) }
     ensures shorter { length text.new ≤ length text.old }
 {
     if !text.begins(b"<!DOCTYPE") {

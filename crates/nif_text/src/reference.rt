@@ -1,7 +1,8 @@
 //! References, each to one character.
 ghost use Rattle.std.specs.Prelude.{◌≡◌, ℕ, ◌+◌, ◌^◌, ◌<◌, ◌≤◌, Bool, true, false, List, [], ◌∷◌, ◌++◌, length, IfSome, IfNone};
 ghost use Rattle.nif_text.specs.Parts.{Byte};
-ghost use Rattle.nif_text.specs.References.{digit_value, number, is_character, Number, Reference};
+ghost use Rattle.nif_base.specs.Ascii.{digit_value};
+ghost use Rattle.nif_text.specs.References.{number, is_character, Number, Reference};
 ghost use Rattle.nif_text.specs.Reading.{Never, NoName, Longest};
 ghost use Rattle.nif_text.specs.Bases.{base_of, is_digit, IsCapped};
 
@@ -33,7 +34,8 @@ fn digit(c: u8, base: Base) -> Option<u32>
 
 /// The number of all digits at the front, and what stands behind them. A number that no character has may be another such.
 fn digits(text: &[u8], base: Base) -> (u32, &[u8])
-    ensures run { (digits : List ℕ) × Longest (Byte (is_digit base)) digits text.now result.1.now × IsCapped result.0 (number (base_of base) 0 digits) }
+    ensures run { (digits : List ℕ) × Longest (Byte (is_digit base)) digits text.now result.1.now
+        × IsCapped result.0 (number (base_of base) 0 digits) }
     ensures shorter { length result.1.now ≤ length text.now }
 {
     let radix = match base {

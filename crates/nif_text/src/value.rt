@@ -65,7 +65,8 @@ fn value_part(text: &mut Cursor<'_>, quote: u8, out: &mut Vec<u8>) -> Result<boo
 
 /// Puts what all parts that come next stand for behind `out`.
 fn value_parts(text: &mut Cursor<'_>, quote: u8, out: &mut Vec<u8>) -> Result<(), NoMemory>
-    ensures run { OnOk result ((parts : List (List ℕ)) × Longest (ValuePart quote) parts text.old text.new × (out.new.items ≡ out.old.items ++ joined parts)) }
+    ensures run { OnOk result ((parts : List (List ℕ)) × Longest (ValuePart quote) parts text.old text.new
+        × (out.new.items ≡ out.old.items ++ joined parts)) }
     ensures shorter { OnOk result (length text.new ≤ length text.old) }
 {
     while value_part(text, quote, out)? {}

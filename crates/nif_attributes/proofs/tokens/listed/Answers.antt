@@ -5,7 +5,7 @@ use Rattle.std.specs.Option.{option_map}
 use Rattle.std.specs.Str.{bytes_eq}
 use Rattle.nif_attributes.specs.declared.tokens.Attribute.{Attribute}
 use Rattle.nif_attributes.specs.declared.tokens.Attribute.TheVariants as the
-use Rattle.nif_text.specs.Bytes.{is_blank}
+use Rattle.nif_base.specs.Ascii.{is_blank}
 use Rattle.nif_attributes.specs.Tokens.{names_in, name_of_attribute}
 use Rattle.nif_attributes.proofs.Groups.{all_attributes, filter_yes, filter_no, listed_alike}
 use Rattle.nif_attributes.proofs.tokens.listed.Goals as goal

@@ -1,7 +1,7 @@
 use Rattle.std.proofs.Common.{◌≡◌, take}
 use Rattle.std.specs.List.{filter, list_any, slice_split}
 use Rattle.std.specs.Str.{bytes_eq}
-use Rattle.nif_text.specs.Bytes.{is_blank}
+use Rattle.nif_base.specs.Ascii.{is_blank}
 use Rattle.nif_attributes.specs.Tokens.{name_of_attribute}
 use Rattle.nif_attributes.proofs.tokens.listed.Given as goal
 

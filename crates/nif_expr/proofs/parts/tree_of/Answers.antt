@@ -1,5 +1,5 @@
 use Rattle.std.proofs.Common.{ap, arith, length}
-use Rattle.nif_expr.specs.Bytes.{is_blank}
+use Rattle.nif_base.specs.Ascii.{is_blank}
 use Rattle.nif_expr.specs.Kept.{frames, part_of, state_of}
 use Rattle.nif_expr.proofs.PathLemmas.{length-after}
 use Rattle.nif_expr.proofs.GoingLemmas.{going_begun, going_on, going_wrong, going_stuck, unblank_after, less_after, some_left, none_left, finished}

@@ -1,5 +1,6 @@
 use Rattle.std.proofs.Common.{◌≡◌, ◌≤◌, false, length}
-use Rattle.nif_expr.specs.Bytes.{begins, is_blank}
+use Rattle.nif_base.specs.Ascii.{is_blank}
+use Rattle.nif_expr.specs.Bytes.{begins}
 use Rattle.nif_expr.specs.Kept.{state_of}
 use Rattle.nif_expr.proofs.GoingLemmas.{IsGoing}
 use Rattle.nif_expr.proofs.parts.tree_of.Given as goal

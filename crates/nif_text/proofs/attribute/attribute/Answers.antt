@@ -1,7 +1,8 @@
 use Rattle.std.proofs.Common.{ℕ, List, length, sym, ◌∙◌, ap, subst}
 use Rattle.std.proofs.lemmas.Result.{err_from_is_err_and}
 use Rattle.nif_text.specs.Parts.{Byte}
-use Rattle.nif_text.specs.Bytes.{is_blank, Name}
+use Rattle.nif_base.specs.Ascii.{is_blank}
+use Rattle.nif_text.specs.Bytes.{Name}
 use Rattle.nif_text.specs.Reading.{Longest}
 use Rattle.nif_text.proofs.Attributes.{attribute_never-blank, attribute_never-name, attribute_stops, some_blanks}
 use Rattle.nif_text.proofs.attribute.attribute.Goals as goal

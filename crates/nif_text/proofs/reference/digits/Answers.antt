@@ -1,6 +1,7 @@
 use Rattle.std.proofs.Common.{[], ◌∷◌, ◌++◌, arith}
 use Rattle.nif_text.specs.Parts.{Byte}
-use Rattle.nif_text.specs.References.{number, digit_value}
+use Rattle.nif_base.specs.Ascii.{digit_value}
+use Rattle.nif_text.specs.References.{number}
 use Rattle.nif_text.specs.Bases.{base_of, is_digit}
 use Rattle.nif_text.proofs.Runs.{many_more}
 use Rattle.nif_text.proofs.Numbers.{number_more, capped_more, capped_stays, base_positive}

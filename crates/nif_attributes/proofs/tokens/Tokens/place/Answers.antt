@@ -11,4 +11,4 @@ returns-clause-idle c name n group low high is =
     let (one, same, token) = lone_at c.self.inside.items.items n group (ap (λ s. slice_get s n) c.self.view_is ∙ is) in
     let absent = c.next.ensures.none (map text_of c.self.inside.items.items) c.self.invariant n (text_of one) low high token in
     ap (λ g. pass_group name c.args.text.now g) (sym same)
-    ∙ lone-absent name c.args.text.now one (omega (arith, ap length c.bytes-bytes.ensures, c.if-bytes-gt-LIMIT.false)) (subst (λ t. IsAbsent t (text_of one)) c.bytes-bytes.ensures absent)
+    ∙ lone-absent name c.args.text.now one (omega (arith, ap length c.bytes-bytes.ensures, c.if-bytes-gt-MOST_EXPRESSION_BYTES.false)) (subst (λ t. IsAbsent t (text_of one)) c.bytes-bytes.ensures absent)
