@@ -50,4 +50,4 @@ pub record IsReadable (schema : Schema) (earlier : List Field) (f : Field) : Typ
   pub arg : HasValues schema earlier f.arg
   pub length : HasValues schema earlier f.length
   pub width : HasValues schema earlier (width_where f.length f.width)
-  ⊎ NamesArrays schema earlier (width_where f.length f.width)
+      ⊎ NamesArrays schema earlier (width_where f.length f.width)
