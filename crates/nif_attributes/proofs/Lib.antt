@@ -1,5 +1,4 @@
 pub mod Replacing
 pub mod Groups
 pub mod Decimals
-pub mod LeafLemmas
 pub mod Finding

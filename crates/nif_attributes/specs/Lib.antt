@@ -2,6 +2,5 @@ pub mod Tokens
 pub mod Listing
 pub mod Attributes
 pub mod Texts
-pub mod Leaves
 pub mod Finding
 pub mod Kept

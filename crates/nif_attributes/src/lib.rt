@@ -6,7 +6,6 @@
 
 pub mod attributes;
 mod index;
-pub mod leaves;
 pub mod numbers;
 pub mod texts;
 pub mod tokens;

@@ -2,7 +2,7 @@
 ghost use Rattle.std.specs.Prelude.{◌≡◌, ℕ, ◌<◌, ◌↔◌, Bool, codes, length, map, slice_get, Some, IsTrue, IfOk, IfErr, MatchOption};
 ghost use Rattle.nif_schema.specs.Declaration.{field};
 ghost use Rattle.nif_schema.specs.Schema.{find};
-ghost use Rattle.nif_schema.specs.Uses.{is_generic, is_struct, what_at};
+ghost use Rattle.nif_schema.specs.Uses.{is_generic, what_at};
 ghost use Rattle.nif_schema.specs.declared.decls.What.{What};
 ghost use Rattle.nif_schema.specs.Roles.{refers, header_fields, IsRoot, HasRoots, RefersNowhere, Roles, RoleFault};
 ghost use Rattle.nif_check.specs.Results.{FieldRules, IsFault};
@@ -24,12 +24,6 @@ pub(crate) struct Roots {
     pub(crate) footer: u32,
 }
 
-fn is_struct(what: &What) -> bool
-    ensures { result ≡ is_struct what.now }
-{
-    matches!(what, What::Struct)
-}
-
 /// The number of the struct of a name that takes no template and is open.
 fn root(schema: &Schema, generic: &[bool], reasons: &[Option<Closed>], name: &[u8]) -> Option<u32>
     requires generic_count { length generic.now ≡ length schema.now }
@@ -39,7 +33,7 @@ fn root(schema: &Schema, generic: &[bool], reasons: &[Option<Closed>], name: &[u
     ensures { MatchOption result ((number : ℕ) → IsRoot schema.now name.now number → ⊥) (IsRoot schema.now name.now) }
 {
     let number = schema.find(name)?;
-    if !is_struct(&schema.decl(number).what) {
+    if !schema.decl(number).what.is_struct() {
         return None;
     }
     if generic[number as usize] {

@@ -23,7 +23,8 @@ use Rattle.nif_file.specs.declared.heads.Head.{Head}
 use Rattle.nif_file.specs.Head.{number_of, inner_number}
 use Rattle.nif_file.specs.Checks.{member_fault}
 use Rattle.nif_file.specs.Files.{header_line}
-use Rattle.nif_file.specs.HeaderParts.{with_members, member_at, IsPlaceOf}
+use Rattle.nif_file.specs.HeaderParts.{with_members, IsPlaceOf}
+use Rattle.nif_decode.specs.Scopes.{member_at}
 use Rattle.nif_file.specs.Heads.{IsHead, IsNext, IsSmall, place_in}
 use Rattle.nif_file.specs.HeaderReading.{IsNoted, Notes}
 use Rattle.nif_file.proofs.Walks.{some_same}

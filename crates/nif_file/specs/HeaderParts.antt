@@ -2,7 +2,7 @@
 use Rattle.std.specs.Prelude.{ℕ, zero, suc, ◌≡◌, ◌<◌, true, false, bytes_eq, None, Some, List, [], ◌∷◌}
 use Rattle.std.specs.List.{list_any}
 use Rattle.std.specs.declared.option.Option.{Option}
-use Rattle.nif_base.specs.Node.{Node, Members, End, Here, Absent}
+use Rattle.nif_base.specs.Node.{Node, Members, Here, Absent}
 use Rattle.nif_schema.specs.Declaration.{Name, Field}
 use Rattle.nif_schema.specs.Schema.{Schema}
 use Rattle.nif_layout.specs.Earlier.{Env, behind}
@@ -37,14 +37,6 @@ PartReads S (got ∷ gots) [] E at left E' next = ⊥
 PartReads S (got ∷ gots) (f ∷ fields) E at left E' next =
     (mid : Point) × MemberReads S E f got at mid × (header_check S E f got ≡ None)
     × PartReads S gots fields (behind f got E) mid left E' next
-
--- the member at a place
-abbrev pub member_at : Members → ℕ → Option Node
-member_at End k = None
-member_at (Here node rest) zero = Some node
-member_at (Absent rest) zero = None
-member_at (Here node rest) (suc k) = member_at rest k
-member_at (Absent rest) (suc k) = member_at rest k
 
 -- The only field of a name stands at this place of the fields, or there is none.
 abbrev pub IsPlaceOf : Name → List Field → Option ℕ → Type 0

@@ -9,7 +9,8 @@ use Rattle.nif_schema.specs.Schema.{Schema}
 use Rattle.nif_layout.specs.Earlier.{Env, behind, last_present, passed}
 use Rattle.nif_file.specs.Head.{member}
 use Rattle.nif_file.specs.Files.{header_line, head_of}
-use Rattle.nif_file.specs.HeaderParts.{member_at, IsPlaceOf}
+use Rattle.nif_file.specs.HeaderParts.{IsPlaceOf}
+use Rattle.nif_decode.specs.Scopes.{member_at}
 
 pub neither : (a b : Bool) → (a || b) ≡ false → (a ≡ false) × (b ≡ false)
 neither true b h = absurd (true≢false h)

@@ -16,7 +16,7 @@ use crate::names::take_sized;
 use nif_base::{NoMemory, Source, Word};
 use nif_check::Checked;
 use nif_file::{FileFault, Header};
-use nif_lists::{Lists, find_block, type_name};
+use nif_lists::{Lists, type_name};
 use nif_schema::{Schema, What};
 use nif_stream::Taker;
 use nif_value::Store;
@@ -63,7 +63,7 @@ fn kind_of_name(alloc: Global, checked: &Checked, block: u32, name: &[u8]) -> Re
     ensures ok { IfOk result (IsBlockType checked.now) }
     ensures err { IfErr result (RefusesName checked.now block name.now) }
 {
-    if let Some(kind) = find_block(checked.schema(), name) {
+    if let Some(kind) = checked.schema().find_block(name) {
         return concrete(checked, block, kind);
     }
     match Word::from_bytes(alloc, name) {

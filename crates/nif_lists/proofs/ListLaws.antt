@@ -14,7 +14,8 @@ use Rattle.nif_layout.specs.PathValue.{number_in}
 use Rattle.nif_layout.specs.Form.{item_at, number_at_item}
 use Rattle.nif_file.specs.Head.{string_in, strings_in, row_in, member}
 use Rattle.nif_file.specs.Files.{IsHeader, header_line, head_of, members_of}
-use Rattle.nif_file.specs.HeaderParts.{member_at, IsPlaceOf}
+use Rattle.nif_file.specs.HeaderParts.{IsPlaceOf}
+use Rattle.nif_decode.specs.Scopes.{member_at}
 use Rattle.nif_file.specs.PlaceLaws.{place_member}
 use Rattle.nif_cells.specs.Walks.{Ends, count, walk_in}
 use Rattle.nif_cells.specs.declared.steps.Step.TheVariants as step

@@ -2,7 +2,7 @@
 use Rattle.std.proofs.Common.{ℕ, zero, suc, ◌<◌, ◌≤◌, ◌≡◌, true, false, List, [], ◌∷◌, ◌++◌, Option, None, Some, refl, ◌∙◌, ap, arith, append_assoc}
 use Rattle.nif_base.specs.Node.{Node, Members, Num, Line, Ref, Text, Bytes, Group, Row, End, Here, Absent}
 use Rattle.nif_cells.specs.Walks.{Met, Leaf, Opens, LeftOut, Ends, count, walk, walk_in}
-use Rattle.nif_file.specs.HeaderParts.{member_at}
+use Rattle.nif_decode.specs.Scopes.{member_at}
 use Rattle.nif_encode.specs.Texts.{where_open, behind_one}
 use Rattle.nif_encode.specs.TextLaws.{lowered, node_behind}
 use Rattle.nif_lists.specs.Passing.{behind_first, Keeps, kept_one}

@@ -6,7 +6,7 @@ use Rattle.std.proofs.lemmas.Result.{IfOk-weaker}
 use Rattle.nif_base.specs.Node.{Node, Members, Group, Row, End, Here, Absent}
 use Rattle.nif_file.specs.Head.{string_in, strings_in, row_in, type_names, member}
 use Rattle.nif_file.specs.Files.{head_of, members_of}
-use Rattle.nif_file.specs.HeaderParts.{member_at}
+use Rattle.nif_decode.specs.Scopes.{member_at}
 use Rattle.nif_file.specs.PlaceLaws.{place_member}
 use Rattle.nif_cells.specs.Walks.{Met, Ends, walk, walk_in}
 use Rattle.nif_graph.specs.declared.places.RolePlaces.{RolePlaces}

@@ -10,5 +10,5 @@ mod passing;
 pub mod reading;
 mod roles;
 
-pub use lists::{Lists, find_block};
+pub use lists::Lists;
 pub use reading::{read_lists, type_name};

@@ -35,18 +35,6 @@ impl Model for Lists {
     ghost view = { λ l. record { types = l.types.items; index = option_map (λ words. words.items) l.index; sizes = option_map (λ sizes. sizes.items) l.sizes } };
 }
 
-/// The number of the block type of a name, if there is one. It takes no memory.
-pub fn find_block(schema: &Schema, name: &[u8]) -> Option<u32>
-    ensures { result ≡ find_block schema.now name.now }
-{
-    let number = schema.find(name)?;
-    if schema.decl(number).what.is_block() {
-        Some(number)
-    } else {
-        None
-    }
-}
-
 /// Index words after a step: a row begins them, and the lowest 16 bits of a number are put behind the others.
 fn with_word(
     alloc: Global,
@@ -116,7 +104,7 @@ impl Lists {
         }) }
         ensures err { OnErr result (self.new ≡ self.old) }
     {
-        match self.types.push(find_block(schema, name)) {
+        match self.types.push(schema.find_block(name)) {
             Ok(()) => Ok(()),
             Err(_) => Err(NoMemory),
         }

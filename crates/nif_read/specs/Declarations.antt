@@ -10,7 +10,7 @@ use Rattle.nif_schema.specs.declared.decls.What.TheVariants as what
 use Rattle.nif_schema.specs.declared.members.BitMember.{BitMember}
 use Rattle.nif_attributes.specs.declared.tokens.Expanded.{Expanded}
 use Rattle.nif_attributes.specs.Attributes.{Text, Attrs, given, text_of}
-use Rattle.nif_attributes.specs.Leaves.{leaf_of}
+use Rattle.nif_schema.specs.Leaves.{leaf_of}
 use Rattle.nif_attributes.specs.Texts.{decimal}
 use Rattle.nif_read.specs.Fields.{IsField, is_nameless}
 use Rattle.nif_attributes.specs.declared.tokens.Attribute.{Attribute}

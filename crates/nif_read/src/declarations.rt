@@ -11,10 +11,9 @@ use crate::fields::own_fields;
 use crate::forms::Form;
 use crate::members::members;
 use nif_attributes::attributes::given;
-use nif_attributes::leaves::leaf_of;
 use nif_attributes::tokens::Tokens;
 use nif_base::{NoMemory, Word};
-use nif_schema::{BitMembers, Decl, What};
+use nif_schema::{BitMembers, Decl, What, leaf_of};
 use nif_text::{Attrs, Element};
 use std::alloc::Global;
 

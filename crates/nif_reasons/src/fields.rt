@@ -3,7 +3,6 @@ ghost use Rattle.std.specs.Prelude.{◌≡◌, ◌||◌, List, IfOk};
 ghost use Rattle.nif_schema.specs.Declaration as plain;
 ghost use Rattle.nif_schema.specs.Declaration.{field};
 ghost use Rattle.nif_schema.specs.Reasons as spec;
-ghost use Rattle.nif_schema.specs.Uses.{is_reference};
 ghost use Rattle.nif_reasons.specs.FieldReasons.{plain_reason, condition_reason, size_reason};
 ghost use Rattle.nif_paths.specs.Marks.{Gives, IsLine};
 ghost use Rattle.nif_paths.specs.Shaped.{AreMarks, AreInsides};
@@ -12,7 +11,7 @@ use crate::formulas::{formula_reason, width_reason};
 use nif_base::{NoMemory, Word};
 use nif_names::Names;
 use nif_paths::Line;
-use nif_schema::{Bound, Closed, Exact, Field, Leaf, Schema, What};
+use nif_schema::{Bound, Closed, Exact, Field, Schema};
 use nif_uses::{is_own_template, named};
 use std::alloc::Global;
 
@@ -77,16 +76,6 @@ fn reference_template_reason(
     Some(Closed::C8)
 }
 
-fn is_reference(what: &What) -> bool
-    ensures { result ≡ is_reference what.now }
-{
-    match what {
-        What::Basic { leaf: Leaf::Ref } => true,
-        What::Basic { leaf: Leaf::Ptr } => true,
-        _ => false,
-    }
-}
-
 fn template_reason(schema: &Schema, generic: &[bool], in_struct: bool, of: &Field) -> Option<Closed>
     requires { AreMarks schema.now generic.now }
     ensures { result ≡ spec.template_reason schema.now in_struct (field of.now) }
@@ -95,7 +84,7 @@ fn template_reason(schema: &Schema, generic: &[bool], in_struct: bool, of: &Fiel
     if generic[number as usize] {
         return generic_template_reason(schema, generic, in_struct, &of.template);
     }
-    if is_reference(&schema.decl(number).what) {
+    if schema.decl(number).what.is_reference() {
         return reference_template_reason(schema, in_struct, &of.template);
     }
     None

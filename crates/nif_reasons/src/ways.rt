@@ -1,6 +1,5 @@
 //! Ways from a root down to a type, with a table of the fields on them.
 ghost use Rattle.std.specs.Prelude.{◌≡◌, ℕ, ◌<◌, ◌↔◌, List, [], ◌∷◌, ◌++◌, map, length, Contains, IfOk, None, Some, IsTrue};
-ghost use Rattle.nif_schema.specs.Uses.{is_struct};
 ghost use Rattle.nif_schema.specs.Declaration as plain;
 ghost use Rattle.nif_schema.specs.Declaration.{field};
 ghost use Rattle.nif_schema.specs.Schema.{parent};
@@ -13,7 +12,7 @@ use crate::fields::field_reason;
 use nif_base::NoMemory;
 use nif_names::Names;
 use nif_paths::Line;
-use nif_schema::{Closed, Field, Fields, Schema, What};
+use nif_schema::{Closed, Field, Fields, Schema};
 use std::alloc::Global;
 
 /// A way from a root down to a type, with a line of the fields on it. After want of memory it isn't to be used again.
@@ -108,7 +107,7 @@ pub fn enter(
     ensures reason { IfOk result (λ reason. reason ≡ own_reason_on schema.now way.old.stack.items so_far number) }
 {
     let decl = schema.decl(number);
-    let in_struct = is_struct(&decl.what);
+    let in_struct = decl.what.is_struct();
     let reason = match add_fields(
         alloc,
         schema,
@@ -126,12 +125,6 @@ pub fn enter(
         return Err(NoMemory);
     };
     Ok(reason)
-}
-
-fn is_struct(what: &What) -> bool
-    ensures { result ≡ is_struct what.now }
-{
-    matches!(what, What::Struct)
 }
 
 /// Goes up from the last type of a way, if it isn't empty.

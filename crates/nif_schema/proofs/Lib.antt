@@ -1,4 +1,5 @@
 pub mod Numbering
+pub mod LeafLemmas
 pub mod Pigeonhole
 pub mod WalkLemmas
 pub mod LineLemmas

@@ -1,6 +1,7 @@
 pub mod Expression
 pub mod Declaration
 pub mod Basic
+pub mod Leaves
 pub mod Schema
 pub mod Codes
 pub mod Kept

@@ -52,6 +52,7 @@ pub enum What {
 impl What {
     ghost use Rattle.std.specs.Prelude.{◌≡◌, option_copied};
     ghost use Rattle.nif_schema.specs.Declaration.{inherited, is_block};
+    ghost use Rattle.nif_schema.specs.Uses.{is_struct, is_reference};
 
     /// The name that a block type inherits from.
     pub fn parent_name(&self) -> Option<&Word>
@@ -68,6 +69,24 @@ impl What {
         ensures { result ≡ is_block self.now }
     {
         matches!(self, What::Block { .. })
+    }
+
+    /// Whether it is a struct.
+    pub fn is_struct(&self) -> bool
+        ensures { result ≡ is_struct self.now }
+    {
+        matches!(self, What::Struct)
+    }
+
+    /// Whether it is a basic that is spelled as a reference, strong or weak.
+    pub fn is_reference(&self) -> bool
+        ensures { result ≡ is_reference self.now }
+    {
+        match self {
+            What::Basic { leaf: Leaf::Ref } => true,
+            What::Basic { leaf: Leaf::Ptr } => true,
+            _ => false,
+        }
     }
 }
 

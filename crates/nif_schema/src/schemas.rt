@@ -101,8 +101,8 @@ impl Schema {
         self.numbers.get(name).copied()
     }
 
-    /// The number of the block type of a name.
-    fn find_block(&self, name: &[u8]) -> Option<u32>
+    /// The number of the block type of a name, if there is one.
+    pub fn find_block(&self, name: &[u8]) -> Option<u32>
         ensures value { result ≡ find_block self.now name.now }
         ensures within { IfSome result (λ number. number < length self.now) }
     {

@@ -1,13 +1,13 @@
 use Rattle.std.proofs.Common.{ℕ, List, [], Option, sym, ap, ◌∙◌, subst}
 use Rattle.std.specs.Prelude.{unwrap_or}
 use Rattle.nif_schema.specs.Basic.{IsOtherLeaf}
-use Rattle.nif_attributes.specs.Leaves.{sized}
-use Rattle.nif_attributes.proofs.LeafLemmas.{listed, other, sized-nil, sized-other, own}
+use Rattle.nif_schema.specs.Leaves.{sized}
+use Rattle.nif_schema.proofs.LeafLemmas.{listed, other, sized-nil, sized-other, own}
 use Rattle.nif_schema.specs.Basic.{Unread}
 use Rattle.nif_schema.specs.declared.decls.Leaf.{Leaf}
 use Rattle.std.specs.Borrow.{Bor}
 use Rattle.std.specs.Option.{option_map}
-use Rattle.nif_attributes.proofs.leaves.leaf_of.Goals as goal
+use Rattle.nif_schema.proofs.leaves.leaf_of.Goals as goal
 
 abbrev text_in : Option (Bor (List ℕ)) → Option (List ℕ)
 text_in size = option_map (λ text. text.now) size

@@ -2,10 +2,10 @@
 ghost use Rattle.std.specs.Prelude.{◌≡◌, map, Option, Some, None, MatchOption, false};
 ghost use Rattle.std.specs.Option.{option_map};
 ghost use Rattle.nif_schema.specs.Basic.{listed_leaf, IsLeafOf};
-ghost use Rattle.nif_attributes.specs.Leaves.{sized, leaf_of};
-ghost use Rattle.nif_attributes.specs.Leaves.{row_of, leaf_in};
+ghost use Rattle.nif_schema.specs.Leaves.{sized, leaf_of};
+ghost use Rattle.nif_schema.specs.Leaves.{row_of, leaf_in};
 
-use nif_schema::Leaf;
+use crate::decls::Leaf;
 
 /// The basics that go by their names.
 const LEAVES: [(&[u8], Leaf); 22] = [

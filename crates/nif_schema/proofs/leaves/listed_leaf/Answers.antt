@@ -1,5 +1,5 @@
 use Rattle.nif_schema.specs.Basic.{listed_leaf}
-use Rattle.nif_attributes.proofs.leaves.listed_leaf.Goals as goal
+use Rattle.nif_schema.proofs.leaves.listed_leaf.Goals as goal
 
 -- the table of the program is the table of the basics
 pub returns : goal.returns

@@ -1,6 +1,6 @@
 use Rattle.std.proofs.Common.{◌≡◌, drop, map}
-use Rattle.nif_attributes.specs.Leaves.{row_of, leaf_in}
-use Rattle.nif_attributes.proofs.leaves.find_leaf.Given as goal
+use Rattle.nif_schema.specs.Leaves.{row_of, leaf_in}
+use Rattle.nif_schema.proofs.leaves.find_leaf.Given as goal
 
 -- no row that was passed has the name
 abbrev pub invariant-loop-other : goal.invariant-loop-other
