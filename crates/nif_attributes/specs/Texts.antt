@@ -5,6 +5,7 @@ use Rattle.std.specs.Option.{option_map}
 use Rattle.std.specs.List.{list_all}
 use Rattle.std.specs.Char.{is_ascii_digit}
 use Rattle.std.specs.Str.Parse.{digits_value}
+use Rattle.nif_base.specs.Limits.{most_expression_bytes}
 use Rattle.nif_base.specs.Version.{version_of}
 use Rattle.nif_schema.specs.Expression.{Tree}
 use Rattle.nif_schema.specs.Declaration.{Formula, Read, Bad}
@@ -21,7 +22,7 @@ use Rattle.nif_attributes.specs.Attributes.{Text, text_of, replaced_by}
 -- The grammar gives this tree to a text of at most 4,096 bytes.
 pub record Reads (text : Expanded) (tree : Tree) : Type 0 where
   pub whole : text.too_long ≡ false
-  pub short : length text.text ≤ 4096
+  pub short : length text.text ≤ most_expression_bytes
   pub read : IsExpression text.text tree
 
 -- An expression is read to its tree, and is bad where it has none.

@@ -5,6 +5,7 @@ use Rattle.std.specs.Prelude.{ℕ, ◌≡◌, zero, suc, ◌-◌, Bool, true, fa
 use Rattle.std.specs.Option.{is_none}
 use Rattle.std.specs.List.{filter, filter_map, fold, list_any, slice_split}
 use Rattle.std.specs.Str.{bytes_eq}
+use Rattle.nif_base.specs.Limits.{most_expression_bytes}
 use Rattle.nif_base.specs.Ascii.{is_blank}
 use Rattle.nif_text.specs.Tree.{Tree, name_of, attrs_of, children_of}
 use Rattle.nif_attributes.specs.declared.tokens.Attribute.{Attribute}
@@ -81,7 +82,7 @@ abbrev pub pass : Expanded → Token → Expanded
 pass text by =
     let after = replaced by.token by.string text.text in
     if text.too_long then text
-    else if nat_le (length after) 4096 then record { text = after; too_long = false }
+    else if nat_le (length after) most_expression_bytes then record { text = after; too_long = false }
     else record { text = text.text; too_long = true }
 
 -- the passes by all tokens of a group, where it lists the name

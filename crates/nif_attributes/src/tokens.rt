@@ -3,6 +3,7 @@ ghost use Rattle.std.specs.Prelude.{◌≡◌, ℕ, ◌+◌, ◌<◌, ◌≤◌,
 ghost use Rattle.std.specs.List.{list_any, filter_map, slice_split, slice_get};
 ghost use Rattle.std.specs.Option.{option_map, is_none};
 ghost use Rattle.std.specs.Str.{bytes_eq};
+ghost use Rattle.nif_base.specs.Limits.{most_expression_bytes};
 ghost use Rattle.nif_text.specs.Tree.{name_of, attrs_of, children_of};
 ghost use Rattle.nif_base.specs.Ascii.{is_blank};
 ghost use Rattle.nif_attributes.specs.Tokens.{Group, value_of, token_of, groups_of, has_refused, names_in, replaced, name_of_attribute};
@@ -192,10 +193,11 @@ fn push<T: Drop>(items: &mut Vec<T>, item: T) -> Result<(), NoMemory>
 
 /// Puts bytes behind `out`, unless it would then have more than the most bytes. Says whether it did.
 fn push_within(out: &mut Vec<u8>, bytes: &[u8]) -> Result<bool, NoMemory>
-    requires { vec_len out.old ≤ 4096 }
+    requires { vec_len out.old ≤ most_expression_bytes }
     ensures put { IfOk result (λ fits. fits ≡ true → (out.new.items ≡ out.old.items ++ bytes.now)
-        × (length out.new.items ≤ 4096)) }
-    ensures full { IfOk result (λ fits. fits ≡ false → 4096 < length out.old.items + length bytes.now) }
+        × (length out.new.items ≤ most_expression_bytes)) }
+    ensures full { IfOk result (λ fits. fits ≡ false
+        → most_expression_bytes < length out.old.items + length bytes.now) }
 {
     if bytes.len() > MOST_EXPRESSION_BYTES - out.len() {
         return Ok(false);
@@ -215,8 +217,10 @@ fn replace(
     string: &[u8],
 ) -> Result<Option<Vec<u8>>, NoMemory>
     requires { 0 < length token.now }
-    ensures { IfOk result (λ out. MatchOption out (4096 < length (replaced token.now string.now text.now))
-        (λ bytes. (bytes.items ≡ replaced token.now string.now text.now) × (length bytes.items ≤ 4096))) }
+    ensures { IfOk result (λ out. MatchOption out
+        (most_expression_bytes < length (replaced token.now string.now text.now))
+        (λ bytes. (bytes.items ≡ replaced token.now string.now text.now)
+        × (length bytes.items ≤ most_expression_bytes))) }
 {
     let mut out = Vec::new(alloc);
     let mut rest = text;

@@ -1,5 +1,6 @@
 //! Schema texts.
 ghost use Rattle.std.specs.Prelude.{◌≡◌, ◌+◌, ◌-◌, ◌^◌, ◌<◌, ◌≤◌, [], length, map, None, Some, All, OnOk, IfOk, IfErr};
+ghost use Rattle.nif_base.specs.Limits.{most_schema_bytes};
 ghost use Rattle.nif_text.specs.Tree.{Tree, elements, children_of};
 ghost use Rattle.nif_text.specs.Documents.{Written};
 ghost use Rattle.nif_attributes.specs.Attributes.{replaced_by};
@@ -87,7 +88,7 @@ fn child(
 
 /// The schema of the children of the root, or the first fault among them.
 fn declarations(alloc: Global, tokens: &Tokens, children: &[Element]) -> Result<Schema, SchemaFault>
-    requires all { length children.now ≤ 2 ^ 22 }
+    requires all { length children.now ≤ most_schema_bytes }
     requires few { All (λ child. length (children_of child) < 2 ^ 32) children.now }
     ensures sound { IfOk result (λ _. first_fault (replaced_by tokens.now) [] 0 children.now ≡ None) }
     ensures declared { IfOk result (λ schema. AreDeclared (replaced_by tokens.now) children.now schema) }
@@ -102,7 +103,7 @@ fn declarations(alloc: Global, tokens: &Tokens, children: &[Element]) -> Result<
 
 /// The schema that a tree declares, or its fault.
 fn schema_of(alloc: Global, root: &Element) -> Result<Schema, SchemaFault>
-    requires { elements root.now ≤ 2 ^ 22 }
+    requires { elements root.now ≤ most_schema_bytes }
     ensures ok { IfOk result (λ schema. Declares root.now schema) }
     ensures err { IfErr result (IsFaultOf (fault_of root.now)) }
 {
@@ -119,7 +120,7 @@ fn schema_of(alloc: Global, root: &Element) -> Result<Schema, SchemaFault>
 /// `niftoolsxml`. `NotWritten` comes where the bytes write no tree of elements, `NoRoot` where the root has another
 /// name, and else the first of `MissingName`, `DuplicateName` and `BadToken` in the order of the text.
 pub fn read_schema(alloc: Global, bytes: &[u8]) -> Result<Schema, SchemaFault>
-    requires { length bytes.now ≤ 2 ^ 22 }
+    requires { length bytes.now ≤ most_schema_bytes }
     // The bytes write a tree that declares the schema,
     ensures schema { IfOk result (λ schema. (tree : Tree) × Written tree bytes.now × Declares tree schema) }
     // or they write none, or one with this fault.

@@ -1,5 +1,6 @@
 -- Schema texts as a whole.
-use Rattle.std.specs.Prelude.{ℕ, ◌≡◌, ◌≤◌, false, ◌⊎◌, Option, List, [], ◌∷◌, length}
+use Rattle.std.specs.Prelude.{ℕ, ◌-◌, ◌≡◌, ◌≤◌, false, ◌⊎◌, Option, List, [], ◌∷◌, length}
+use Rattle.nif_base.specs.Limits.{most_element_depth}
 use Rattle.nif_text.specs.Tree.{Tree}
 use Rattle.nif_text.specs.Parts.{Many, Byte, Literal, Optional}
 use Rattle.nif_base.specs.Ascii.{is_blank}
@@ -39,7 +40,7 @@ pub record Written (tree : Tree) (text : List ℕ) : Type 0 where
   pub root_at : List ℕ
   pub asides_at : List ℕ
   pub before : Before text root_at
-  pub root : Nested 64 tree root_at asides_at
+  pub root : Nested most_element_depth tree root_at asides_at
   pub behind : Asides asides_at []
 
 -- what may stand before the root, the root's start and content with exactly so many whole children
@@ -51,7 +52,7 @@ pub record Begun (count : ℕ) (text rest : List ℕ) : Type 0 where
   pub pieces : List (Option Tree)
   pub before : Before text root_at
   pub start : Start name attrs false root_at content_at
-  pub content : Many (Piece (Nested 63)) pieces content_at rest
+  pub content : Many (Piece (Nested (most_element_depth - 1))) pieces content_at rest
   pub counted : count ≡ length (children_among pieces)
 
 -- the greatest number of children that a front of the text is begun with, 0 where there is none

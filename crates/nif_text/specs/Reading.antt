@@ -1,5 +1,6 @@
 -- What a reader of a part answers: the words of the contracts inside this crate.
-use Rattle.std.specs.Prelude.{ℕ, ◌≡◌, ◌⊎◌, ◌↔◌, [], ◌∷◌, ◌++◌, ◌≤◌, length, Bool, true, false, Result, Ok, Err, Option, Some, None, List, codes}
+use Rattle.std.specs.Prelude.{ℕ, ◌-◌, ◌≡◌, ◌⊎◌, ◌↔◌, [], ◌∷◌, ◌++◌, ◌≤◌, length, Bool, true, false, Result, Ok, Err, Option, Some, None, List, codes}
+use Rattle.nif_base.specs.Limits.{most_element_depth}
 use Rattle.nif_text.specs.Parts.{Many, Byte, Literal}
 use Rattle.nif_base.specs.Ascii.{is_blank}
 use Rattle.nif_text.specs.Bytes.{is_name_start}
@@ -107,7 +108,7 @@ pub record BegunRoot (count : ℕ) (text rest : List ℕ) : Type 0 where
   pub attrs : List (List ℕ × List ℕ)
   pub pieces : List (Option Tree)
   pub start : Start name attrs false text content_at
-  pub content : Many (Piece (Nested 63)) pieces content_at rest
+  pub content : Many (Piece (Nested (most_element_depth - 1))) pieces content_at rest
   pub counted : count ≡ length (children_among pieces)
 
 -- the greatest number of children with which the root is begun here, 0 where it isn't
@@ -122,8 +123,8 @@ fault_of stops.NoMemory count = faults.NoMemory
 
 -- What the reader of the root answers.
 abbrev pub RootRead : List ℕ → List ℕ → Result Tree TextFault → Type 0
-RootRead old new (Ok tree) = Nested 64 tree old new × IsAfterRoot old (length (children_of tree))
-RootRead old new (Err (faults.NotWritten count)) = Never (Nested 64) old × IsAfterRoot old count
+RootRead old new (Ok tree) = Nested most_element_depth tree old new × IsAfterRoot old (length (children_of tree))
+RootRead old new (Err (faults.NotWritten count)) = Never (Nested most_element_depth) old × IsAfterRoot old count
 RootRead old new (Err faults.NoMemory) = Unit {0}
 
 -- no declaration comes next

@@ -1,5 +1,6 @@
 //! The attributes of an element.
 ghost use Rattle.std.specs.Prelude.{◌≡◌, ℕ, ◌+◌, ◌^◌, ◌<◌, ◌≤◌, Bool, true, false, List, [], ◌∷◌, ◌++◌, length, IfOk, OnOk, IfSome};
+ghost use Rattle.nif_base.specs.Limits.{most_schema_bytes};
 ghost use Rattle.nif_text.specs.Reading.{AttributeRead, AttributesRead};
 
 use crate::cursor::Cursor;
@@ -30,7 +31,7 @@ fn attribute(text: &mut Cursor<'_>, alloc: Global) -> Result<Option<(Word, Word)
 
 /// All attributes that come next. The text goes over the blanks behind them, too.
 pub fn attributes(text: &mut Cursor<'_>, alloc: Global) -> Result<Attrs, Stop>
-    requires { length text.old ≤ 2 ^ 22 }
+    requires { length text.old ≤ most_schema_bytes }
     ensures read { AttributesRead text.old text.new result }
     ensures not_longer { OnOk result (length text.new ≤ length text.old) }
 {

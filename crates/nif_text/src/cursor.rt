@@ -1,5 +1,6 @@
 //! A place in a text, and the steps that go on from it.
 ghost use Rattle.std.specs.Prelude.{◌≡◌, ℕ, ◌+◌, ◌^◌, ◌<◌, ◌≤◌, Bool, false, List, [], ◌∷◌, ◌++◌, length, IsTrue, IfSome, IfNone, OnSome, if◌then◌else◌};
+ghost use Rattle.nif_base.specs.Limits.{most_schema_bytes};
 ghost use Rattle.nif_text.specs.Parts.{Many, Byte, Literal};
 ghost use Rattle.nif_base.specs.Ascii.{is_blank};
 ghost use Rattle.nif_text.specs.Bytes.{is_allowed, is_name_start, is_name_byte, Name};
@@ -16,13 +17,14 @@ pub struct Cursor<'a> {
 }
 
 impl<'a> Model for Cursor<'a> {
-    ghost use Rattle.std.specs.Prelude.{ℕ, ◌^◌, ◌≤◌, List, length};
+    ghost use Rattle.std.specs.Prelude.{ℕ, ◌≤◌, List, length};
+    ghost use Rattle.nif_base.specs.Limits.{most_schema_bytes};
 
     ghost Value = { List ℕ };
 
     ghost view = { λ c. c.rest.now };
 
-    ghost invariant = { λ c. length c.rest.now ≤ 2 ^ 22 };
+    ghost invariant = { λ c. length c.rest.now ≤ most_schema_bytes };
 }
 
 /// A kind of byte.
@@ -91,7 +93,7 @@ fn front_name(text: &[u8]) -> Option<(&[u8], &[u8])>
 
 impl<'a> Cursor<'a> {
     pub fn new(text: &'a [u8]) -> Cursor<'a>
-        requires { length text.now ≤ 2 ^ 22 }
+        requires { length text.now ≤ most_schema_bytes }
         ensures { result ≡ text.now }
     {
         Cursor { rest: text }
@@ -100,7 +102,7 @@ impl<'a> Cursor<'a> {
     /// What is left.
     pub fn rest(&self) -> &'a [u8]
         ensures text { result.now ≡ self.now }
-        ensures short { length self.now ≤ 2 ^ 22 }
+        ensures short { length self.now ≤ most_schema_bytes }
     {
         self.rest
     }
@@ -119,7 +121,7 @@ impl<'a> Cursor<'a> {
         ensures no { result ≡ false → NoLiteral bytes.now self.old }
         ensures stays { result ≡ false → self.new ≡ self.old }
         ensures shorter { length self.new + (if result then length bytes.now else 0) ≤ length self.old }
-        ensures short { length self.old ≤ 2 ^ 22 }
+        ensures short { length self.old ≤ most_schema_bytes }
     {
         match self.rest.strip_prefix(bytes) {
             Some(rest) => {

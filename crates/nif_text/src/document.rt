@@ -1,5 +1,6 @@
 //! Schema texts as a whole.
 ghost use Rattle.std.specs.Prelude.{◌≡◌, ℕ, ◌+◌, ◌^◌, ◌<◌, ◌≤◌, Bool, true, false, IsTrue, List, [], ◌∷◌, ◌++◌, length, IfOk, IfErr, if◌then◌else◌};
+ghost use Rattle.nif_base.specs.Limits.{most_schema_bytes};
 ghost use Rattle.nif_text.specs.Parts.{Optional};
 ghost use Rattle.nif_text.specs.Comments.{Declaration};
 ghost use Rattle.nif_text.specs.Tree.{children_of};
@@ -12,10 +13,11 @@ use crate::elements::content;
 use crate::start::{finish, start};
 use crate::stop::Stop;
 use crate::tree::{Element, TextFault};
+use nif_base::limits::MOST_ELEMENT_DEPTH;
 use std::alloc::Global;
 
 /// How many levels deep the children of the root may nest.
-const CHILD_LEVELS: u32 = 63;
+const CHILD_LEVELS: u32 = MOST_ELEMENT_DEPTH - 1;
 
 /// Goes over a blank or a comment where one comes next. Otherwise the text stays where it is.
 fn aside(text: &mut Cursor<'_>) -> bool
@@ -129,7 +131,7 @@ fn root(text: &mut Cursor<'_>, alloc: Global) -> Result<Element, TextFault>
 /// is written by the bytes; its `after` is the greatest number of whole children of the root that a front of
 /// the bytes spells, 0 where no root begins.
 pub fn read_elements(alloc: Global, bytes: &[u8]) -> Result<Element, TextFault>
-    requires { length bytes.now ≤ 2 ^ 22 }
+    requires { length bytes.now ≤ most_schema_bytes }
     // What is read is written so.
     ensures tree { IfOk result (λ tree. Written tree bytes.now) }
     // A text that isn't read is no spelling of a tree,

@@ -1,5 +1,6 @@
 //! The starts of elements, and their ends.
 ghost use Rattle.std.specs.Prelude.{◌≡◌, ℕ, ◌+◌, ◌^◌, ◌<◌, ◌≤◌, ◌↔◌, Bool, true, false, IsTrue, List, [], ◌∷◌, ◌++◌, length, map, IfOk, OnOk, IfSome, IfNone};
+ghost use Rattle.nif_base.specs.Limits.{most_schema_bytes};
 ghost use Rattle.nif_text.specs.Parts.{Literal};
 ghost use Rattle.nif_text.specs.Elements.{bracket, StartOf, Finish, AllDiffer};
 ghost use Rattle.nif_text.specs.Reading.{NoBracket, Read};
@@ -47,7 +48,7 @@ fn all_differ(alloc: Global, attrs: &Attrs) -> Result<bool, NoMemory>
 pub fn start(text: &mut Cursor<'_>, alloc: Global) -> Result<(Word, Attrs, bool), Stop>
     ensures read { Read StartOf text.old text.new result }
     ensures shorter { OnOk result (length text.new + 1 ≤ length text.old) }
-    ensures short { length text.old ≤ 2 ^ 22 }
+    ensures short { length text.old ≤ most_schema_bytes }
 {
     if !text.eat(b"<") {
         return Err(Stop::NotWritten);
