@@ -5,8 +5,6 @@ use Rattle.std.specs.List.{list_any, slice_get}
 use Rattle.std.specs.Ordering.{is_eq, nat_cmp}
 use Rattle.std.specs.Cmp.Lexicographic.{slice_cmp}
 use Rattle.std.specs.Map.{lookup}
-use Rattle.std.specs.declared.vec.Vec.{Vec}
-use Rattle.std.specs.declared.alloc.Global.{Global}
 use Rattle.nif_attributes.specs.declared.index.Span.{Span}
 use Rattle.nif_attributes.specs.declared.index.TokenIndex.{TokenIndex}
 

@@ -1,10 +1,10 @@
 -- Each tree has an outcome, since each text is an expression or is none.
-use Rattle.std.proofs.Common.{◌≡◌, ℕ, ◌+◌, ◌≤◌, ◌<◌, Bool, true, false, cond, List, [], ◌∷◌, ◌++◌, Option, Some, None, refl, sym, ap, ◌∙◌, subst, length, arith, ◌⊎◌, inl, inr, nat_le}
+use Rattle.std.proofs.Common.{◌≡◌, ℕ, ◌+◌, ◌≤◌, Bool, true, false, cond, List, [], ◌∷◌, ◌++◌, Option, Some, None, refl, sym, ◌∙◌, subst, length, arith, ◌⊎◌, inl, inr, nat_le}
 use Rattle.std.specs.Prelude.{◌||◌, codes}
 use Rattle.std.specs.Str.{bytes_eq}
 use Rattle.nif_schema.specs.declared.faults.SchemaFault.TheVariants as faults
 use Rattle.std.specs.Option.{option_map, option_or, is_none}
-use Rattle.std.specs.List.{cons_option, list_any, filter, filter_map, AllZip, AllByRecursion}
+use Rattle.std.specs.List.{cons_option, list_any, AllByRecursion}
 use Rattle.std.proofs.lemmas.Bool.Decides.{nat_tests}
 use Rattle.nif_text.specs.Tree as text
 use Rattle.nif_text.specs.Tree.{name_of, attrs_of, children_of}
@@ -18,10 +18,10 @@ use Rattle.nif_attributes.specs.declared.tokens.Attribute.{Attribute}
 use Rattle.nif_attributes.specs.declared.tokens.Attribute.TheVariants as the
 use Rattle.nif_read.specs.declared.forms.Form.{Form}
 use Rattle.nif_attributes.specs.Attributes.{Text, text_of}
-use Rattle.nif_attributes.specs.Texts.{Reads, IsFormula, Either, plain, bound_of, exact_of}
+use Rattle.nif_attributes.specs.Texts.{IsFormula, Either, plain, bound_of, exact_of}
 use Rattle.nif_read.specs.Fields.{IsField, width_of, is_nameless}
 use Rattle.nif_read.specs.Declarations.{form_of, name_in, fields_in, members_in, what_of, has_nameless, IsDeclaration}
-use Rattle.nif_read.specs.Schemas.{declaring, AreDeclared, Declares, DeclaresNot, fault_of, fault_at, fault_as, fault_under, first_fault, names_by, replaced_in}
+use Rattle.nif_read.specs.Schemas.{declaring, Declares, DeclaresNot, fault_of, fault_at, fault_as, fault_under, first_fault, names_by, replaced_in}
 use Rattle.nif_read.proofs.Zips.{zip_some}
 
 -- each text is an expression or is none

@@ -1,8 +1,5 @@
 -- A tree has one outcome.
-use Rattle.std.proofs.Common.{◌≡◌, ℕ, ◌+◌, ◌≤◌, ◌<◌, Bool, true, false, cond, List, [], ◌∷◌, ◌++◌, Option, Some, None, refl, sym, ap, ◌∙◌, subst, length, arith, ◌⊎◌, inl, inr}
-use Rattle.std.specs.Prelude.{◌||◌}
-use Rattle.std.specs.Option.{option_map, option_or, is_none}
-use Rattle.std.specs.List.{list_any, filter_map, AllZip, AllByRecursion}
+use Rattle.std.proofs.Common.{◌≡◌, ℕ, List, Option, Some, None, refl, sym, ap, ◌∙◌}
 use Rattle.nif_text.specs.Tree as text
 use Rattle.nif_text.specs.Tree.{name_of, attrs_of, children_of}
 use Rattle.nif_schema.specs.Expression.{Tree}
@@ -15,10 +12,10 @@ use Rattle.nif_attributes.specs.declared.tokens.Attribute.{Attribute}
 use Rattle.nif_attributes.specs.declared.tokens.Attribute.TheVariants as the
 use Rattle.nif_read.specs.declared.forms.Form.{Form}
 use Rattle.nif_attributes.specs.Attributes.{Text, text_of}
-use Rattle.nif_attributes.specs.Texts.{Reads, IsFormula, Either, plain}
-use Rattle.nif_read.specs.Fields.{IsField, width_of, is_nameless}
-use Rattle.nif_read.specs.Declarations.{form_of, name_in, fields_in, what_of, IsDeclaration}
-use Rattle.nif_read.specs.Schemas.{declaring, AreDeclared, Declares, DeclaresNot}
+use Rattle.nif_attributes.specs.Texts.{IsFormula, Either}
+use Rattle.nif_read.specs.Fields.{IsField, width_of}
+use Rattle.nif_read.specs.Declarations.{fields_in, IsDeclaration}
+use Rattle.nif_read.specs.Schemas.{declaring, Declares, DeclaresNot}
 use Rattle.nif_read.proofs.Zips.{zip_one}
 
 -- no text has two trees

@@ -1,13 +1,12 @@
 -- The steps of a walk over the children of the root.
-use Rattle.std.proofs.Common.{◌≡◌, ℕ, ◌+◌, Bool, true, false, cond, List, [], ◌∷◌, ◌++◌, Option, Some, None, refl, sym, ap, ◌∙◌, subst, length}
-use Rattle.std.specs.Prelude.{map, position}
+use Rattle.std.proofs.Common.{◌≡◌, ℕ, ◌+◌, List, [], ◌∷◌, ◌++◌, Option, Some, None, refl, sym, ap, ◌∙◌, subst}
+use Rattle.std.specs.Prelude.{map}
 use Rattle.std.specs.Option.{option_or, option_map}
-use Rattle.std.specs.List.{list_any, filter_map, AllZip}
-use Rattle.std.specs.Str.{bytes_eq}
+use Rattle.std.specs.List.{filter_map, AllZip}
 use Rattle.std.proofs.lemmas.List.Elements.{filter_map-append}
 use Rattle.nif_text.specs.Tree.{Tree, name_of, attrs_of}
 use Rattle.nif_schema.specs.Declaration.{Declaration}
-use Rattle.nif_schema.specs.Schema.{Schema, find}
+use Rattle.nif_schema.specs.Schema.{Schema}
 use Rattle.nif_schema.specs.declared.faults.SchemaFault.{SchemaFault}
 use Rattle.nif_attributes.specs.declared.tokens.Expanded.{Expanded}
 use Rattle.nif_attributes.specs.declared.tokens.Attribute.{Attribute}
@@ -15,7 +14,7 @@ use Rattle.nif_read.specs.declared.forms.Form.{Form}
 use Rattle.nif_attributes.specs.Attributes.{Text}
 use Rattle.nif_read.specs.Declarations.{form_of, name_in, IsDeclaration}
 use Rattle.nif_read.specs.Schemas.{fault_at, first_fault, names_by, declared_by, declaring, AreDeclared}
-use Rattle.nif_read.specs.Kept.{StepAs, Stepped}
+use Rattle.nif_read.specs.Kept.{StepAs}
 use Rattle.nif_read.proofs.Zips.{zip_push}
 
 -- the first fault is here

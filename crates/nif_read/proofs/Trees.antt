@@ -1,5 +1,5 @@
 -- How many elements a tree has.
-use Rattle.std.proofs.Common.{◌≡◌, ℕ, ◌+◌, ◌≤◌, List, [], ◌∷◌, length, refl, ap, arith}
+use Rattle.std.proofs.Common.{◌≡◌, ℕ, ◌≤◌, List, [], ◌∷◌, length, refl, ap, arith}
 use Rattle.std.specs.List.{AllByRecursion}
 use Rattle.nif_text.specs.Tree.{Tree, Trees, Node, End, Then, trees, listed, children_of, elements, elements_in}
 

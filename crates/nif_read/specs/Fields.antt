@@ -1,5 +1,5 @@
 -- The fields of a struct or block type.
-use Rattle.std.specs.Prelude.{◌≡◌, Bool, ◌||◌, length, Some, option_and_then}
+use Rattle.std.specs.Prelude.{◌≡◌, Bool, ◌||◌, Some, option_and_then}
 use Rattle.std.specs.declared.option.Option.{Option}
 use Rattle.std.specs.Option.{option_map, is_none}
 use Rattle.nif_schema.specs.Declaration.{Field}

@@ -1,5 +1,5 @@
 -- References, each to one character.
-use Rattle.std.specs.Prelude.{ℕ, ◌+◌, ◌-◌, ◌*◌, ◌≡◌, ◌≢◌, Bool, IsTrue, ◌||◌, ◌==◌, if◌then◌else◌, nat_le, List, [], ◌∷◌, codes}
+use Rattle.std.specs.Prelude.{ℕ, ◌+◌, ◌*◌, ◌≡◌, ◌≢◌, Bool, IsTrue, ◌||◌, ◌==◌, List, [], ◌∷◌, codes}
 use Rattle.nif_text.specs.Parts.{Many, Byte, Literal, After}
 use Rattle.nif_base.specs.Ascii.{is_between, is_digit, is_hex_digit, digit_value}
 

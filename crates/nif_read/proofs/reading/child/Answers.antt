@@ -1,4 +1,4 @@
-use Rattle.std.proofs.Common.{◌≡◌, Some, None, refl, sym, ap, ◌∙◌, map}
+use Rattle.std.proofs.Common.{◌≡◌, Some, None, sym, ap, ◌∙◌, map}
 use Rattle.nif_text.specs.Tree.{name_of}
 use Rattle.nif_attributes.specs.Attributes.{replaced_by}
 use Rattle.nif_read.specs.Declarations.{form_of}

@@ -1,4 +1,4 @@
-use Rattle.std.proofs.Common.{◌≡◌, ◌≤◌, [], length, map, sym, ap, arith}
+use Rattle.std.proofs.Common.{◌≡◌, length, map, sym, ap, arith}
 use Rattle.nif_schema.specs.Schema.{Schema}
 use Rattle.nif_attributes.specs.Attributes.{replaced_by}
 use Rattle.nif_read.specs.Schemas.{first_fault}

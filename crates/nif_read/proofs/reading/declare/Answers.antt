@@ -1,4 +1,4 @@
-use Rattle.std.proofs.Common.{◌≡◌, Some, Bool, true, false, map, sym, ap, ◌∙◌, rules, arith}
+use Rattle.std.proofs.Common.{◌≡◌, Some, true, false, sym, ◌∙◌, rules, arith}
 use Rattle.std.proofs.lemmas.Grind.{common_steps}
 use Rattle.nif_text.specs.Tree.{attrs_of}
 use Rattle.nif_attributes.specs.Attributes.{replaced_by}

@@ -3,7 +3,6 @@ use Rattle.std.specs.List.{All}
 use Rattle.std.proofs.lemmas.List.Elements.{All-from_recursion, All-weaker}
 use Rattle.nif_text.specs.Tree.{Tree, children_of}
 use Rattle.nif_attributes.specs.Attributes.{replaced_by}
-use Rattle.nif_read.specs.Schemas.{first_fault, fault_of, replaced_in}
 use Rattle.nif_attributes.specs.Tokens.{groups_of}
 use Rattle.nif_read.proofs.Trees.{few_children, few_below}
 use Rattle.nif_read.proofs.Walk.{other_root, same_root, alike, declares, faults_in}

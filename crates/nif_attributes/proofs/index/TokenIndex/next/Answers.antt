@@ -1,4 +1,4 @@
-use Rattle.std.proofs.Common.{◌≡◌, ℕ, List, length, take, eqb, true, ap, sym, ◌∙◌, arith}
+use Rattle.std.proofs.Common.{length, eqb, ap, ◌∙◌, arith}
 use Rattle.std.proofs.lemmas.List.{take_all}
 use Rattle.std.specs.List.{list_any}
 use Rattle.nif_attributes.proofs.Finding.{any_more}

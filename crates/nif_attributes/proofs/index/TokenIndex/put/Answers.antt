@@ -1,7 +1,5 @@
-use Rattle.std.proofs.Common.{ℕ, Vec, Global, List, length, Result, Ok, Err, ap, sym, ◌∙◌, refl}
-use Rattle.std.specs.Result.{OnOk}
-use Rattle.nif_base.specs.declared.faults.NoMemory.{NoMemory}
-use Rattle.nif_attributes.specs.Finding.{span_of, first_from, IsPut, AreCovered}
+use Rattle.std.proofs.Common.{ℕ, Vec, Global, ap, sym, ◌∙◌}
+use Rattle.nif_attributes.specs.Finding.{span_of, first_from}
 use Rattle.nif_attributes.specs.declared.index.Span.{Span}
 use Rattle.nif_attributes.proofs.Finding.{covers_more, on_ok}
 use Rattle.nif_attributes.proofs.index.TokenIndex.put.Goals as goal

@@ -5,7 +5,7 @@ use Rattle.nif_text.specs.Tree.{attrs_of}
 use Rattle.nif_attributes.specs.Tokens.{name_of_attribute, names_in, value_of, token_of}
 use Rattle.nif_attributes.specs.Listing.{listed_as}
 use Rattle.nif_attributes.proofs.Finding.{on_ok}
-use Rattle.nif_attributes.proofs.Groups.{alike_no_group, alike_tokens, tokens_is}
+use Rattle.nif_attributes.proofs.Groups.{alike_tokens, tokens_is}
 use Rattle.nif_attributes.proofs.tokens.Gathered.add_group.Goals as goal
 
 pub returns-clause-groups : goal.returns-clause-groups

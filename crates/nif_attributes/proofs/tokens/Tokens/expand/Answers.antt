@@ -1,4 +1,4 @@
-use Rattle.std.proofs.Common.{Some, length, drop, map, ap, sym, ◌∙◌, arith}
+use Rattle.std.proofs.Common.{length, ap, sym, ◌∙◌, arith}
 use Rattle.std.proofs.lemmas.List.{drop_all, length-map}
 use Rattle.std.proofs.lemmas.Option.{slice_get-map}
 use Rattle.std.specs.Option.{option_map}

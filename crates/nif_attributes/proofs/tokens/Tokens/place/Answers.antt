@@ -1,7 +1,7 @@
-use Rattle.std.proofs.Common.{map, Some, ap, sym, ◌∙◌, subst, arith, length, ◌≤◌}
+use Rattle.std.proofs.Common.{map, ap, sym, ◌∙◌, subst, arith, length}
 use Rattle.std.specs.List.{slice_get}
 use Rattle.nif_attributes.specs.Tokens.{pass_group}
-use Rattle.nif_attributes.specs.Listing.{lone, text_of}
+use Rattle.nif_attributes.specs.Listing.{text_of}
 use Rattle.nif_attributes.specs.Finding.{IsAbsent}
 use Rattle.nif_attributes.proofs.Finding.{lone_at, lone-absent}
 use Rattle.nif_attributes.proofs.tokens.Tokens.place.Goals as goal
