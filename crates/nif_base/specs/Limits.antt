@@ -33,10 +33,6 @@ most_blocks = 2 ^ 20
 abbrev pub most_types : ℕ
 most_types = 2 ^ 15
 
--- the bytes of a line, without the byte that ends it
-abbrev pub most_line_bytes : ℕ
-most_line_bytes = 255
-
 -- the lowest version of a file: 4.0.0.2
 abbrev pub lowest_version : ℕ
 lowest_version = 4 * 2 ^ 24 + 2

@@ -1,5 +1,5 @@
 -- A value of a file as a tree of nodes, and the bytes that spell it.
-use Rattle.std.specs.Prelude.{ℕ, zero, suc, ◌+◌, ◌/◌, ◌%◌, Bool, true, false, ◌||◌, None, Some, List, [], ◌∷◌, ◌++◌, max, reverse}
+use Rattle.std.specs.Prelude.{ℕ, zero, suc, ◌+◌, ◌/◌, ◌%◌, Bool, true, false, ◌||◌, None, Some, List, [], ◌∷◌, ◌++◌, length, max, reverse, option_and_then}
 use Rattle.std.specs.declared.option.Option.{Option}
 use Rattle.nif_base.specs.declared.orders.Order.{Order}
 use Rattle.nif_base.specs.declared.orders.Order.TheVariants.{Little, Big}
@@ -59,6 +59,22 @@ abbrev mutual
   texts order (Absent rest) = texts order rest
 
 abbrev mutual
+  -- how many bytes spell a node, whatever the order of the file
+  pub size : Node → ℕ
+  size (Num width little bits) = width
+  size (Line bytes) = length bytes + 1
+  size (Ref strong wanted target) = 4
+  size (Text index) = 4
+  size (Bytes bytes) = length bytes
+  size (Group members) = size_in members
+  size (Row items) = size_in items
+
+  pub size_in : Members → ℕ
+  size_in End = 0
+  size_in (Here node rest) = size node + size_in rest
+  size_in (Absent rest) = size_in rest
+
+abbrev mutual
   -- how many nodes a node counts as, itself and each absent member with it
   pub nodes : Node → ℕ
   nodes (Num width little bits) = 1
@@ -111,3 +127,19 @@ abbrev mutual
   refs_in End = []
   refs_in (Here node rest) = refs node ++ refs_in rest
   refs_in (Absent rest) = refs_in rest
+
+abbrev mutual
+  -- the same node, with each target put through f
+  pub retargeted : (ℕ → Option ℕ) → Node → Node
+  retargeted f (Num width little bits) = Num width little bits
+  retargeted f (Line bytes) = Line bytes
+  retargeted f (Ref strong wanted target) = Ref strong wanted (option_and_then f target)
+  retargeted f (Text index) = Text index
+  retargeted f (Bytes bytes) = Bytes bytes
+  retargeted f (Group members) = Group (retargeted_in f members)
+  retargeted f (Row items) = Row (retargeted_in f items)
+
+  pub retargeted_in : (ℕ → Option ℕ) → Members → Members
+  retargeted_in f End = End
+  retargeted_in f (Here node rest) = Here (retargeted f node) (retargeted_in f rest)
+  retargeted_in f (Absent rest) = Absent (retargeted_in f rest)

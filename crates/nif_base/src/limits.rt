@@ -24,9 +24,6 @@ pub const MOST_BLOCKS: u32 = 1 << 20;
 /// The entries of the list of types of a file: 2^15.
 pub const MOST_TYPES: u32 = 1 << 15;
 
-/// The bytes of a line, without the byte that ends it.
-pub const MOST_LINE_BYTES: usize = 255;
-
 /// The lowest version of a file: 4.0.0.2.
 pub const LOWEST_VERSION: u32 = 0x0400_0002;
 

@@ -4,7 +4,7 @@ use Rattle.std.proofs.lemmas.Bool.{eqb-false}
 use Rattle.std.specs.Prelude.{codes}
 use Rattle.nif_base.specs.Node as node
 use Rattle.nif_base.specs.Node.{Node, Members, End, Here, Absent}
-use Rattle.nif_base.specs.File.{File}
+use Rattle.nif_base.specs.File.{File, nodes_of}
 use Rattle.nif_base.specs.Version.{version_of, part_of, number_of}
 use Rattle.nif_schema.specs.Declaration.{Name, Read, Field}
 use Rattle.nif_schema.specs.Expression.{Path}
@@ -18,7 +18,7 @@ use Rattle.nif_layout.specs.Leaf.{AreInLine}
 use Rattle.nif_layout.specs.Fault.{Point, Passes}
 use Rattle.nif_file.specs.declared.faults.FileFault.TheVariants as file
 use Rattle.nif_file.specs.FirstLine.{line_version, behind_front}
-use Rattle.nif_file.specs.Files.{has_zero_word, IsHeaderLine, IsFile, size_of, nodes_of}
+use Rattle.nif_file.specs.Files.{has_zero_word, IsHeaderLine, IsFile, size_of}
 use Rattle.nif_file.specs.FileFails.{start_of, IsKnown}
 
 -- ---- the schema of plain files

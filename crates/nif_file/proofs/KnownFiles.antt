@@ -2,7 +2,7 @@
 use Rattle.std.proofs.Common.{◌≡◌, ◌≢◌, ℕ, zero, suc, ◌+◌, ◌≤◌, ◌⊎◌, inl, inr, Bool, true, false, ◌&&◌, ◌||◌, not, if◌then◌else◌, Option, Some, None, List, [], ◌∷◌, length, refl, sym, ap, subst, arith, true≢false}
 use Rattle.std.specs.Prelude.{codes, bytes_eq, nat_eq, nat_lt, nat_le, is_none}
 use Rattle.std.specs.Option.{option_map_or}
-use Rattle.nif_base.specs.Node.{Node, Members, Here, Absent, text, nodes, nodes_in}
+use Rattle.nif_base.specs.Node.{Node, Members, Here, Absent, text, nodes, nodes_in, size, size_in}
 use Rattle.nif_base.specs.File.{Block}
 use Rattle.nif_schema.specs.Declaration.{Name, Field}
 use Rattle.nif_schema.specs.Schema.{Schema, IsSchema}
@@ -20,7 +20,7 @@ use Rattle.nif_file.specs.declared.faults.FileFault.{FileFault}
 use Rattle.nif_file.specs.declared.faults.FileFault.TheVariants as file
 use Rattle.nif_file.specs.Stops.{Stop, of_value}
 use Rattle.nif_file.specs.FirstLine.{line_version}
-use Rattle.nif_file.specs.Sizes.{size, size_in, size_of_fields}
+use Rattle.nif_file.specs.Sizes.{size_of_fields}
 use Rattle.nif_file.specs.Head.{header_context, file_context, block_context, order_in, version_in, number_of, bs_version, index_word, line_in}
 use Rattle.nif_base.specs.Limits.{most_blocks, most_types, highest_bs, most_depth}
 use Rattle.nif_file.specs.Checks.{line_fault, refuse_where, member_fault, header_check}

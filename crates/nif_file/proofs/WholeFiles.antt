@@ -3,7 +3,7 @@ use Rattle.std.proofs.Common.{◌≡◌, ℕ, zero, suc, ◌+◌, ◌≤◌, ◌
 use Rattle.std.specs.Prelude.{codes}
 use Rattle.nif_base.specs.Node as node
 use Rattle.nif_base.specs.Node.{Node, Members, text, nodes, nodes_in}
-use Rattle.nif_base.specs.File.{Block, File}
+use Rattle.nif_base.specs.File.{Block, File, block_nodes}
 use Rattle.nif_schema.specs.Declaration.{Field}
 use Rattle.nif_schema.specs.Schema.{Schema, IsSchema, line}
 use Rattle.nif_schema.specs.Roles.{Roles, IsRoot}
@@ -18,7 +18,7 @@ use Rattle.nif_layout.specs.PassLaws.{split, join}
 use Rattle.nif_file.specs.Stops.{Stop, of_value}
 use Rattle.nif_file.specs.Head.{header_context, order_in, number_of}
 use Rattle.nif_file.specs.Checks.{header_check, types_fault}
-use Rattle.nif_file.specs.Files.{header_line, head_of, header_text, block_text, blocks_text, block_nodes, AreBlocks, text_of, IsHeader, IsFile}
+use Rattle.nif_file.specs.Files.{header_line, head_of, header_text, block_text, blocks_text, AreBlocks, text_of, IsHeader, IsFile}
 use Rattle.nif_file.specs.FileFails.{HeaderReads, HeaderFails, BlocksRead, RestFails, start_of, FileStops, FileFails}
 use Rattle.nif_file.specs.FileLaws.{FileOrFault, OneFile, OnePlace}
 use Rattle.nif_file.proofs.Walks.{Within, Sound, Then, ThenFails, Unless, chain}

@@ -1,12 +1,12 @@
 -- Bytes of blocks one behind another are read block by block.
 use Rattle.std.proofs.Common.{◌≡◌, ℕ, ◌+◌, List, [], ◌∷◌, length, refl, sym, arith}
 use Rattle.nif_base.specs.Node.{nodes}
-use Rattle.nif_base.specs.File.{Block}
+use Rattle.nif_base.specs.File.{Block, block_nodes}
 use Rattle.nif_schema.specs.Schema.{Schema}
 use Rattle.nif_layout.specs.Earlier.{Env}
 use Rattle.nif_layout.specs.Fault.{Point, Passes}
 use Rattle.nif_layout.specs.PassLaws.{split}
-use Rattle.nif_file.specs.Files.{block_text, blocks_text, block_nodes, AreBlocks}
+use Rattle.nif_file.specs.Files.{block_text, blocks_text, AreBlocks}
 use Rattle.nif_file.specs.FileFails.{BlocksRead}
 
 pub blocks_split : (S : Schema) (E : Env) (blocks : List Block) (k : ℕ) (at next : Point) → AreBlocks S E k blocks

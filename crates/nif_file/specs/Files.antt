@@ -4,8 +4,8 @@ use Rattle.std.specs.declared.option.Option.{Option}
 use Rattle.std.specs.Option.{option_map_or}
 use Rattle.nif_base.specs.declared.orders.Order.{Order}
 use Rattle.nif_base.specs.Node as node
-use Rattle.nif_base.specs.Node.{Node, Members, End, text, nodes, number, is_little}
-use Rattle.nif_base.specs.File.{Block, File}
+use Rattle.nif_base.specs.Node.{Node, Members, End, text, size, number, is_little}
+use Rattle.nif_base.specs.File.{Block, File, nodes_of}
 use Rattle.nif_schema.specs.Declaration.{Name, Field}
 use Rattle.nif_schema.specs.Schema.{Schema, find, find_block, line}
 use Rattle.nif_schema.specs.Uses.{what_at}
@@ -17,7 +17,6 @@ use Rattle.nif_layout.specs.Kind.{Kind, Unknown, kind_of}
 use Rattle.nif_layout.specs.Shape.{Shape, LineShape}
 use Rattle.nif_base.specs.Limits.{most_file_bytes, most_nodes, most_depth}
 use Rattle.nif_layout.specs.Laws.{line_text}
-use Rattle.nif_file.specs.Sizes.{size}
 use Rattle.nif_file.specs.Head.{header_context, file_context, block_context, order_in, version_in, number_of, type_names, index_word, type_place, stated_size}
 use Rattle.nif_file.specs.Checks.{header_check, types_fault}
 
@@ -134,10 +133,6 @@ abbrev pub blocks_text : Schema → Env → ℕ → List Block → List ℕ
 blocks_text S E k [] = []
 blocks_text S E k (block ∷ blocks) = block_text S E k block ++ blocks_text S E (k + 1) blocks
 
-abbrev pub block_nodes : List Block → ℕ
-block_nodes [] = 0
-block_nodes (block ∷ blocks) = nodes block.node + block_nodes blocks
-
 -- ---- the footer, and the file
 
 abbrev pub footer_kind : Schema → Env → Kind
@@ -155,9 +150,6 @@ text_of S F =
     header_text S (members_of F.header)
     ++ (blocks_text S (head_in S F) 0 F.blocks
     ++ text (order_in (head_in S F)) F.footer)
-
-abbrev pub nodes_of : File → ℕ
-nodes_of F = nodes F.header + (block_nodes F.blocks + nodes F.footer)
 
 -- The same number of bytes, by the sizes of the nodes and of what stands before the blocks alone.
 abbrev pub block_size : Schema → Env → ℕ → Block → ℕ

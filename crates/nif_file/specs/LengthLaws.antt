@@ -3,14 +3,13 @@ use Rattle.std.proofs.Common.{◌≡◌, ℕ, ◌+◌, Bool, true, false, ◌||�
 use Rattle.std.specs.Option.{option_map_or}
 use Rattle.nif_base.specs.declared.orders.Order.{Order}
 use Rattle.nif_base.specs.Node as node
-use Rattle.nif_base.specs.Node.{Node, Members, End, Here, Absent, text, texts, number, is_little, place_or_none}
+use Rattle.nif_base.specs.Node.{Node, Members, End, Here, Absent, text, texts, number, is_little, place_or_none, size, size_in}
 use Rattle.nif_base.specs.File.{Block}
 use Rattle.nif_schema.specs.Declaration.{Field}
 use Rattle.nif_schema.specs.Schema.{Schema}
 use Rattle.nif_layout.specs.Earlier.{Env, behind}
 use Rattle.nif_layout.specs.Members.{Member, Check, Fields, fields_text}
 use Rattle.nif_layout.specs.ByteLaws.{length_number}
-use Rattle.nif_file.specs.Sizes.{size, size_in}
 use Rattle.nif_file.specs.Head.{order_in, version_in, index_word, header_context}
 use Rattle.nif_file.specs.Files.{header_line, header_text, members_of, head_in, name_of, name_where, has_zero_word, zero_where, zero_word, block_text, blocks_text, block_size, blocks_size, text_of, IsHeader}
 use Rattle.nif_file.specs.FileLaws.{SizeIsLength}

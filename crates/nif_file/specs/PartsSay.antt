@@ -1,7 +1,7 @@
 -- Which file the parts of a file that was read say.
 use Rattle.std.specs.Prelude.{◌≡◌, List, [], ◌∷◌, Some}
 use Rattle.nif_base.specs.Node.{Node}
-use Rattle.nif_base.specs.File.{Block, File}
+use Rattle.nif_base.specs.File.{Block, File, nodes_of}
 use Rattle.nif_region.specs.Contents as region
 use Rattle.nif_schema.specs.Schema.{Schema}
 use Rattle.nif_schema.specs.declared.contexts.Context as code
@@ -11,7 +11,7 @@ use Rattle.nif_graph.specs.declared.parts.BlockPart.{BlockPart}
 use Rattle.nif_graph.specs.declared.parts.GraphParts.{GraphParts}
 use Rattle.nif_layout.specs.Context.{Context}
 use Rattle.nif_file.specs.Head.{file_context}
-use Rattle.nif_file.specs.Files.{head_in, nodes_of, size_of}
+use Rattle.nif_file.specs.Files.{head_in, size_of}
 use Rattle.nif_file.specs.Heads.{ArePlaces}
 
 -- this node stands under the tree

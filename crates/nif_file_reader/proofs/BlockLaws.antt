@@ -1,12 +1,12 @@
 -- Blocks with one more behind them.
 use Rattle.std.proofs.Common.{◌≡◌, ℕ, zero, suc, ◌+◌, ◌-◌, ◌<◌, inl, inr, List, [], ◌∷◌, ◌++◌, length, sym, ◌∙◌, ap, subst, arith, append_assoc, append-nil}
 use Rattle.nif_base.specs.Node.{nodes}
-use Rattle.nif_base.specs.File.{Block}
+use Rattle.nif_base.specs.File.{Block, block_nodes}
 use Rattle.nif_schema.specs.Schema.{Schema}
 use Rattle.nif_layout.specs.Earlier.{Env}
 use Rattle.nif_layout.specs.Fault.{Point, Passes}
 use Rattle.nif_file.specs.Stops.{Stop}
-use Rattle.nif_file.specs.Files.{IsBlock, AreBlocks, block_text, blocks_text, block_nodes}
+use Rattle.nif_file.specs.Files.{IsBlock, AreBlocks, block_text, blocks_text}
 use Rattle.nif_file.specs.FileFails.{BlockFails, BlocksRead, BlocksFail}
 use Rattle.nif_file.specs.BlockLaws.{blocks_split}
 

@@ -3,7 +3,7 @@ use Rattle.std.proofs.Common.{◌≡◌, ◌≢◌, ℕ, ◌+◌, ◌<◌, ◌�
 use Rattle.std.specs.Prelude.{IfSome, if◌then◌else◌, ◌==◌}
 use Rattle.std.proofs.lemmas.Bool.{eqb-true, eqb-false}
 use Rattle.nif_base.specs.Node.{Members, text, nodes}
-use Rattle.nif_base.specs.File.{Block}
+use Rattle.nif_base.specs.File.{Block, block_nodes}
 use Rattle.nif_schema.specs.Schema.{Schema}
 use Rattle.nif_region.specs.Contents.{find, AreApart}
 use Rattle.nif_stream.specs.declared.takers.Taker.{Taker}
@@ -23,7 +23,7 @@ use Rattle.nif_file.specs.declared.faults.FileFault.TheVariants as file
 use Rattle.nif_file.specs.declared.header.Header.{Header}
 use Rattle.nif_file.specs.Stops.{Stop, of_value}
 use Rattle.nif_file.specs.Head.{block_context, order_in, index_word, stated_size}
-use Rattle.nif_file.specs.Files.{IsBlock, block_kind, block_text, blocks_text, block_nodes, IsBlockType, IsIndexed, IsValue, head_of, name_of, name_where, zero_word}
+use Rattle.nif_file.specs.Files.{IsBlock, block_kind, block_text, blocks_text, IsBlockType, IsIndexed, IsValue, head_of, name_of, name_where, zero_word}
 use Rattle.nif_file.specs.FileFails.{BlockFails, BlocksFail, FrameFails, SizeFails, TypeFails, ValueFails, ZeroFails}
 use Rattle.nif_file_reader.specs.Halting.{Halts}
 use Rattle.nif_file_reader.specs.Known.{Knows, HasBlock, HasBlocks, ReadsType, ReadsValue, block_trees, size_fault}

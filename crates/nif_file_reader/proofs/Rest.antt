@@ -2,7 +2,7 @@
 use Rattle.std.proofs.Common.{◌≡◌, ℕ, ◌+◌, ◌≤◌, inl, inr, List, [], ◌∷◌, ◌++◌, length, refl, sym, ◌∙◌, ap, subst, arith, append_assoc, append-nil, Option}
 use Rattle.std.specs.Prelude.{codes}
 use Rattle.nif_base.specs.Node.{Node, Members, text, nodes}
-use Rattle.nif_base.specs.File.{Block}
+use Rattle.nif_base.specs.File.{Block, block_nodes}
 use Rattle.nif_base.specs.Outside.{IsAtEnd}
 use Rattle.nif_schema.specs.Schema.{Schema}
 use Rattle.nif_region.specs.Contents.{find, AreApart}
@@ -23,7 +23,7 @@ use Rattle.nif_file.specs.declared.header.Header.{Header}
 use Rattle.nif_lists.specs.Lists.{Listed}
 use Rattle.nif_file.specs.Stops.{Stop, of_value}
 use Rattle.nif_file.specs.Head.{file_context, order_in, number_of}
-use Rattle.nif_file.specs.Files.{AreBlocks, blocks_text, block_nodes, footer_kind, head_of}
+use Rattle.nif_file.specs.Files.{AreBlocks, blocks_text, footer_kind, head_of}
 use Rattle.nif_file.specs.FileFails.{BlocksRead, BlocksFail, BodyFails, IsTrailing}
 use Rattle.nif_file.specs.BlockLaws.{blocks_split}
 use Rattle.nif_file_reader.specs.Halting.{Halts}

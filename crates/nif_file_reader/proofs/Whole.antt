@@ -4,7 +4,7 @@ use Rattle.std.specs.Prelude.{IfSome}
 use Rattle.nif_base.specs.Limits.{most_nodes}
 use Rattle.nif_base.specs.Node as node
 use Rattle.nif_base.specs.Node.{Node, Members, text, nodes, nodes_in}
-use Rattle.nif_base.specs.File.{File}
+use Rattle.nif_base.specs.File.{File, block_nodes}
 use Rattle.nif_base.specs.Outside.{IsAtEnd, prepended}
 use Rattle.nif_schema.specs.Schema.{Schema, IsSchema}
 use Rattle.nif_schema.specs.Roles.{Roles}
@@ -28,7 +28,7 @@ use Rattle.nif_lists.specs.Lists.{Listed, AreListsOf}
 use Rattle.nif_file.specs.Stops.{Stop}
 use Rattle.nif_file.specs.Head.{file_context, order_in}
 use Rattle.nif_file.specs.Checks.{types_fault}
-use Rattle.nif_file.specs.Files.{IsFile, IsHeader, IsHeaderLine, head_of, header_text, blocks_text, block_nodes, text_of, size_of}
+use Rattle.nif_file.specs.Files.{IsFile, IsHeader, IsHeaderLine, head_of, header_text, blocks_text, text_of, size_of}
 use Rattle.nif_file.specs.FileFails.{HeaderReads, HeaderFails, RestFails, BodyFails, start_of}
 use Rattle.nif_graph.specs.declared.places.RolePlaces.{RolePlaces}
 use Rattle.nif_file.specs.Heads.{ArePlaces}

@@ -2,7 +2,7 @@
 use Rattle.std.specs.Prelude.{ℕ, ◌≡◌, ◌+◌, ◌≤◌, ◌==◌, if◌then◌else◌, List, [], ◌∷◌, ◌++◌, length, Option, None, Some}
 use Rattle.nif_base.specs.Node as node
 use Rattle.nif_base.specs.Node.{Node, Members, text, nodes}
-use Rattle.nif_base.specs.File.{Block}
+use Rattle.nif_base.specs.File.{Block, block_nodes}
 use Rattle.nif_base.specs.Outside.{IsAtEnd}
 use Rattle.nif_schema.specs.Schema.{Schema, IsSchema}
 use Rattle.nif_schema.specs.Roles.{Roles}
@@ -18,7 +18,7 @@ use Rattle.nif_file.specs.declared.faults.FileFault.{FileFault}
 use Rattle.nif_file.specs.declared.faults.FileFault.TheVariants as file
 use Rattle.nif_file.specs.declared.header.Header.{Header}
 use Rattle.nif_file.specs.Head.{file_context, index_word, order_in}
-use Rattle.nif_file.specs.Files.{IsHeader, IsBlock, IsBlockType, IsIndexed, IsValue, IsFooter, AreBlocks, block_text, blocks_text, block_nodes, head_of, name_of, name_where}
+use Rattle.nif_file.specs.Files.{IsHeader, IsBlock, IsBlockType, IsIndexed, IsValue, IsFooter, AreBlocks, block_text, blocks_text, head_of, name_of, name_where}
 use Rattle.nif_file.specs.Heads.{ArePlaces, context_of}
 use Rattle.nif_file.specs.PartsSay.{SaysBlocks}
 

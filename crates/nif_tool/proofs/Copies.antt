@@ -2,13 +2,13 @@
 use Rattle.std.proofs.Common.{◌≡◌, ℕ, suc, List, [], ◌∷◌, length, Option, Some, None, Ok, Err, take, refl, sym, ap, subst, ◌∙◌}
 use Rattle.std.specs.Option.{option_map, IfSome, IsSomeAnd}
 use Rattle.std.specs.FinMap.{get, insert}
-use Rattle.nif_base.specs.File.{Block, File}
+use Rattle.nif_base.specs.File.{Block, File, nodes_of}
 use Rattle.nif_base.specs.Shelf.{Files, Desk, created, written, files_written-created}
 use Rattle.nif_schema.specs.Schema.{Schema}
 use Rattle.nif_value.specs.Trees.{Trees}
 use Rattle.nif_graph.specs.declared.parts.BlockPart.{BlockPart}
 use Rattle.nif_graph.specs.declared.parts.GraphParts.{GraphParts}
-use Rattle.nif_file.specs.Files.{IsFile, head_in, nodes_of, text_of}
+use Rattle.nif_file.specs.Files.{IsFile, head_in, text_of}
 use Rattle.nif_file.specs.Head.{version_in}
 use Rattle.nif_file.specs.PartsSay.{SaysFile, SaysBlocks}
 use Rattle.nif_file.specs.LengthLaws.{size_is_length}

@@ -3,7 +3,7 @@ use Rattle.std.specs.Prelude.{◌≡◌, ◌≢◌, ◌⊎◌, ℕ, ◌≤◌, L
 use Rattle.std.specs.declared.option.Option.{Option}
 use Rattle.std.specs.Option.{option_map}
 use Rattle.std.specs.FinMap.{get, insert}
-use Rattle.nif_base.specs.File.{File}
+use Rattle.nif_base.specs.File.{File, nodes_of}
 use Rattle.nif_base.specs.Outside.{Rose}
 use Rattle.nif_base.specs.Shelf.{Files, Desk, Refusal}
 use Rattle.nif_base.specs.declared.shelves.Kind.{Kind}
@@ -11,7 +11,7 @@ use Rattle.nif_base.specs.declared.shelves.Kind.TheVariants.{Input, Output}
 use Rattle.nif_schema.specs.Schema.{Schema, IsSchema}
 use Rattle.nif_schema.specs.declared.faults.SchemaFault.TheVariants as schema_faults
 use Rattle.nif_layout.specs.Leaf.{AreBytes}
-use Rattle.nif_file.specs.Files.{IsFile, head_in, nodes_of}
+use Rattle.nif_file.specs.Files.{IsFile, head_in}
 use Rattle.nif_file.specs.FileFails.{FileFails}
 use Rattle.nif_file.specs.Head.{version_in}
 use Rattle.nif_file.specs.declared.faults.FileFault.TheVariants as file_faults
