@@ -1,10 +1,15 @@
-//! Graphs of blocks: what a file that was read is handed on as. It stands on `nif_schema` for the context of a file and on
-//! `nif_value` for the trees of its values. So far it has only the parts of a file as plain data: its trees in one store,
-//! what is known of each block, and the places of the members of the header that say something of the blocks.
+//! Graphs of blocks under names that stay, what a file that was read is handed on as. It stands on `nif_schema` for
+//! types and on `nif_value` for the trees of values. It promises that each call reads or changes the graph that
+//! contracts see as its definition says: blocks, references, what strong references reach, which references are well
+//! typed; and that what is asked often takes constant time, and reaching takes no memory.
 #![tactic(auto)]
 
+pub mod graphs;
+mod marks;
 pub mod parts;
 pub mod places;
+mod slots;
 
+pub use graphs::Graph;
 pub use parts::{BlockPart, Blocks, GraphParts};
 pub use places::RolePlaces;

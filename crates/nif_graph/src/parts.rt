@@ -2,7 +2,7 @@
 ghost use Rattle.std.specs.Prelude.{◌≡◌, ◌-◌, ◌^◌, ◌<◌, [], ◌∷◌, ◌++◌, length, OnOk, OnErr, slice_get, Some};
 
 use crate::places::RolePlaces;
-use nif_base::NoMemory;
+use nif_base::{NoMemory, Word};
 use nif_schema::Context;
 use nif_value::{Store, TreeId};
 use std::alloc::Global;
@@ -78,7 +78,8 @@ impl Blocks {
     }
 }
 
-/// A file that was read: its header, its blocks in order, and its footer, each a tree of one store.
+/// A file that was read: its header, its blocks in order, and its footer, each a tree of one store. A target is the
+/// place of its block, counted from 0.
 #[derive(Drop)]
 pub struct GraphParts {
     pub store: Store,
@@ -88,6 +89,12 @@ pub struct GraphParts {
     pub places: RolePlaces,
     /// The versions and the byte order of the file.
     pub context: Context,
+    /// How many strings the header has.
+    pub strings: u32,
+    /// Whether the header has an index of types.
+    pub indexed: bool,
+    /// Where it has, the names of its types, in order.
+    pub types: Vec<Word>,
     pub blocks: Blocks,
     pub footer: TreeId,
     /// How many nodes they have in all, absent members too.

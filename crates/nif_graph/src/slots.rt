@@ -1,0 +1,149 @@
+//! Blocks in order, each under its name, and a table of the places of names.
+ghost use Rattle.std.specs.Prelude.{◌≡◌, ◌+◌, ◌-◌, ◌≤◌, ◌<◌, ◌^◌, ℕ, [], ◌∷◌, ◌++◌, length, min, None, Some, OnOk, OnErr, IsSome, IfSome, slice_get, unwrap_or, vec_capacity};
+ghost use Rattle.nif_graph.specs.Slots.{place_in};
+
+use nif_base::NoMemory;
+use nif_value::TreeId;
+use std::alloc::Global;
+use std::marker::Model;
+
+/// A block that is kept.
+#[derive(Debug, Clone, Copy, PartialEq, Eq)]
+pub(crate) struct Slot {
+    pub(crate) name: u32,
+    /// The number of the declaration of its type.
+    pub(crate) kind: u32,
+    /// Its entry in `Block Type Index`, where the header has that member.
+    pub(crate) index_word: Option<u16>,
+    pub(crate) tree: TreeId,
+}
+
+/// Blocks in order, and the place of each name that was given.
+#[derive(Drop)]
+pub(crate) struct Slots {
+    slots: Vec<Slot>,
+    // by name; none where the block was taken out
+    places: Vec<Option<u32>>,
+}
+
+impl Model for Slots {
+    ghost use Rattle.std.specs.Prelude.{length, min, ◌-◌, ◌<◌, ◌^◌, vec_capacity};
+    ghost use Rattle.nif_graph.specs.Slots.{Listed, coded_listed, IsTable};
+
+    ghost Value = { Listed };
+
+    ghost coded = { coded_listed };
+
+    ghost view = { λ a. record {
+      slots = a.slots.items;
+      next = length a.places.items;
+      room = min (vec_capacity a.slots - length a.slots.items) (vec_capacity a.places - length a.places.items);
+    } };
+
+    ghost invariant = { λ a. IsTable a.places.items a.slots.items };
+}
+
+impl Slots {
+    /// No blocks, and no name was given. It takes no memory.
+    pub(crate) fn new(alloc: Global) -> Slots
+        ensures slots { result.slots ≡ [] }
+        ensures next { result.next ≡ 0 }
+    {
+        Slots {
+            slots: Vec::new(alloc),
+            places: Vec::new(alloc),
+        }
+    }
+
+    /// How many blocks there are.
+    pub(crate) fn len(&self) -> u32
+        ensures { result ≡ length self.now.slots }
+    {
+        self.slots.len() as u32
+    }
+
+    /// How many names were given.
+    pub(crate) fn next(&self) -> u32
+        ensures { result ≡ self.now.next }
+    {
+        self.places.len() as u32
+    }
+
+    /// The block at a place.
+    pub(crate) fn at(&self, place: u32) -> Slot
+        requires { place < length self.now.slots }
+        ensures { slice_get self.now.slots place ≡ Some result }
+    {
+        self.slots[place as usize]
+    }
+
+    /// The place of a block, or none where no block has the name.
+    pub(crate) fn place_of(&self, name: u32) -> Option<u32>
+        ensures { result ≡ place_in name self.now.slots }
+    {
+        if (name as usize) < self.places.len() {
+            return self.places[name as usize];
+        }
+        None
+    }
+
+    /// The block of a name.
+    pub(crate) fn find(&self, name: u32) -> Slot
+        requires { IsSome (place_in name self.now.slots) }
+        ensures at { IfSome (place_in name self.now.slots) (λ place. slice_get self.now.slots place ≡ Some result) }
+        ensures name { result.name ≡ name }
+    {
+        match self.place_of(name) {
+            Some(place) => self.at(place),
+            None => unreachable!(),
+        }
+    }
+
+    /// The place of each name that was given.
+    pub(crate) fn places(&self) -> &[Option<u32>]
+        ensures { (name : ℕ) → unwrap_or (slice_get result.now name) None ≡ place_in name self.now.slots }
+    {
+        self.places.as_slice()
+    }
+
+    /// Makes room for so many blocks of new names.
+    pub(crate) fn reserve(&mut self, blocks: u32) -> Result<(), NoMemory>
+        ensures slots { self.new.slots ≡ self.old.slots }
+        ensures next { self.new.next ≡ self.old.next }
+        ensures stays { self.old.room ≤ self.new.room }
+        ensures ok { OnOk result (blocks ≤ self.new.room) }
+    {
+        match self.slots.reserve(blocks as usize) {
+            Ok(()) => {}
+            Err(_) => return Err(NoMemory),
+        }
+        match self.places.reserve(blocks as usize) {
+            Ok(()) => Ok(()),
+            Err(_) => Err(NoMemory),
+        }
+    }
+
+    /// Puts a block behind the others, under the next name, where there is room.
+    pub(crate) fn push(&mut self, kind: u32, index_word: Option<u16>, tree: TreeId)
+        requires room { 1 ≤ self.old.room }
+        requires few { self.old.next < 2 ^ 32 - 1 }
+        ensures slots { self.new.slots ≡ self.old.slots ++ record {
+          name = self.old.next;
+          kind = kind;
+          index_word = index_word;
+          tree = tree;
+        } ∷ [] }
+        ensures next { self.new.next ≡ self.old.next + 1 }
+        ensures room { self.new.room + 1 ≡ self.old.room }
+    {
+        let name = self.places.len() as u32;
+        let place = self.slots.len() as u32;
+        self.slots.push_reserved(Slot {
+            name,
+            kind,
+            index_word,
+            tree,
+        });
+        self.places.push_reserved(Some(place));
+    }
+}
