@@ -17,6 +17,7 @@ pub mod HeadMembers
 pub mod MemberReading
 pub mod HeadSmall
 pub mod FieldPlaces
+pub mod Counting
 pub mod HeaderEnds
 pub mod LineReading
 pub mod Noting

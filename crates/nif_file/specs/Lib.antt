@@ -17,3 +17,4 @@ pub mod NameLaws
 pub mod BlockLaws
 pub mod FaultLaws
 pub mod RoleLaws
+pub mod HeaderShapes

@@ -137,30 +137,6 @@ node_there store tree live = by (region.find store.trees tree.run.key) live
     by None h = absurd cc
     by (Some node) h = refl
 
--- which members are present stays
-still_there : (k n : ℕ) (f : ℕ → Node → Node) (members : Members) → has_member k (by_place f n members) ≡ has_member k members
-still_there k n f End = refl
-still_there zero n f (Here node rest) = refl
-still_there zero n f (Absent rest) = refl
-still_there (suc k) n f (Here node rest) = still_there k (suc n) f rest
-still_there (suc k) n f (Absent rest) = still_there k (suc n) f rest
-
-pub indexed_rest : (places : RolePlaces) (told : Told) (header : Node)
-    → is_indexed places (with_told places told header) ≡ is_indexed places header
-indexed_rest places told (Group members) = by places.index
-  where
-    by : (o : Option ℕ)
-        → option_map_or (λ k. has_member k (by_place (told_at places (is_indexed places (Group members)) told) 0 members)) o false
-        ≡ option_map_or (λ k. has_member k members) o false
-    by None = refl
-    by (Some k) = still_there k 0 (told_at places (is_indexed places (Group members)) told) members
-indexed_rest places told (Num width little bits) = refl
-indexed_rest places told (Line bytes) = refl
-indexed_rest places told (Ref strong wanted target) = refl
-indexed_rest places told (Text index) = refl
-indexed_rest places told (Bytes bytes) = refl
-indexed_rest places told (Row items) = refl
-
 -- ---- from parts
 
 pub names_from : (store : Trees) (n : ℕ) (blocks : List BlockPart)

@@ -6,3 +6,4 @@ pub mod Reach
 pub mod Slots
 pub mod State
 pub mod Written
+pub mod WrittenLaws

@@ -25,7 +25,7 @@ use Rattle.nif_lists.specs.declared.roles.Role.TheVariants as role
 use Rattle.nif_lists.specs.Passing.{Keeps}
 use Rattle.nif_lists.specs.Lists.{Listed, entry_of, AreListsOf, ArePlaces, is_at, role_at, kept, kept_first, kept_of}
 use Rattle.nif_lists.proofs.MemberWalks.{kept_node, kept_in, kept_member, kept_at, past_members}
-use Rattle.nif_lists.proofs.HeaderShapes.{IsNumber, AreNumbers, IsNumberRow, IsString, AreStrings, IsStringRow, types_shape, index_shape, sizes_shape}
+use Rattle.nif_file.specs.HeaderShapes.{IsNumber, AreNumbers, IsNumberRow, IsString, AreStrings, IsStringRow, types_shape, index_shape, sizes_shape}
 
 -- ---- what is kept of a row of names
 

@@ -13,7 +13,7 @@ use Rattle.nif_graph.specs.declared.places.RolePlaces.{RolePlaces}
 use Rattle.nif_lists.specs.Passing.{behind_first, behind_step, run_ahead}
 use Rattle.nif_lists.specs.Lists.{IsNameOf}
 use Rattle.nif_lists.proofs.MemberWalks.{from, with_member, at_place, place_within, first_behind}
-use Rattle.nif_lists.proofs.HeaderShapes.{IsString, AreStrings, IsStringRow, types_shape}
+use Rattle.nif_file.specs.HeaderShapes.{IsString, AreStrings, IsStringRow, types_shape}
 
 -- the string at an entry of a row
 record Entry (items : Members) (entry : ℕ) (name : List ℕ) : Type 0 where

@@ -60,22 +60,22 @@ IsStringRow at = (items : Members) × (at ≡ node.Row items) × AreStrings item
 
 -- ---- attributes
 
-none_is : {A : Type 0} (o : Option A) → is_none o ≡ true → o ≡ None
+pub none_is : {A : Type 0} (o : Option A) → is_none o ≡ true → o ≡ None
 none_is None h = refl
 none_is (Some x) h = absurd (true≢false (sym h))
 
-bare_length : (name : Name) (o : Option Formula) → is_bare_name name o ≡ true → (l : Formula) × (o ≡ Some l)
+pub bare_length : (name : Name) (o : Option Formula) → is_bare_name name o ≡ true → (l : Formula) × (o ≡ Some l)
 bare_length name None h = absurd (true≢false (sym h))
 bare_length name (Some l) h = (l, refl)
 
 -- an array of this length, without `width` and `arg`
-record IsArray (f : Field) : Type 0 where
-  size : Formula
-  long : f.length ≡ Some size
-  flat : f.width ≡ None
-  plain : f.arg ≡ None
+pub record IsArray (f : Field) : Type 0 where
+  pub size : Formula
+  pub long : f.length ≡ Some size
+  pub flat : f.width ≡ None
+  pub plain : f.arg ≡ None
 
-is_array : (name : Name) (f : Field) → has_length name f ≡ true → IsArray f
+pub is_array : (name : Name) (f : Field) → has_length name f ≡ true → IsArray f
 is_array name f h =
     let bare = left (is_bare_name name f.length) (is_none f.width && is_none f.arg) h in
     let others = right (is_bare_name name f.length) (is_none f.width && is_none f.arg) h in
@@ -85,31 +85,31 @@ is_array name f h =
 abbrev run_of_field : Schema → Option ℕ → Field → Bool
 run_of_field S template f = option_map_or (is_run S) (replaced S template f.kind) false
 
-array_form : (S : Schema) (C : Context) (template : Option ℕ) (E : Env) (f : Field) (l : Formula) → f.length ≡ Some l → f.width ≡ None
+pub array_form : (S : Schema) (C : Context) (template : Option ℕ) (E : Env) (f : Field) (l : Formula) → f.length ≡ Some l → f.width ≡ None
     → form_of S C template 0 E f ≡ row_of (run_of_field S template f) (field_kind S C template 0 E f) (formula_value S C E 0 l)
 array_form S C template E f l long flat = rw (long, flat) refl
 
-single_form : (S : Schema) (C : Context) (template : Option ℕ) (E : Env) (f : Field) → f.length ≡ None → form_of S C template 0 E f ≡ One (field_kind S C template 0 E f)
+pub single_form : (S : Schema) (C : Context) (template : Option ℕ) (E : Env) (f : Field) → f.length ≡ None → form_of S C template 0 E f ≡ One (field_kind S C template 0 E f)
 single_form S C template E f none = rw none refl
 
 -- ---- fields of basics
 
-replaced_is : (S : Schema) (template : Option ℕ) (f : Field) (name : Name) (o : Option ℕ) → f.kind ≡ name → is_own_template name ≡ false → find S name ≡ o → replaced S template f.kind ≡ o
+pub replaced_is : (S : Schema) (template : Option ℕ) (f : Field) (name : Name) (o : Option ℕ) → f.kind ≡ name → is_own_template name ≡ false → find S name ≡ o → replaced S template f.kind ≡ o
 replaced_is S template f name o kind other found = ap (replaced S template) kind ∙ ap (λ b. if b then template else find S name) other ∙ found
 
-run_is : (S : Schema) (n : ℕ) (d : Declaration) (own : Leaf) (name : Name) → slice_get S n ≡ Some d → d.what ≡ Basic own → d.name ≡ name → is_run S n ≡ list_any (bytes_eq name) run_names
+pub run_is : (S : Schema) (n : ℕ) (d : Declaration) (own : Leaf) (name : Name) → slice_get S n ≡ Some d → d.what ≡ Basic own → d.name ≡ name → is_run S n ≡ list_any (bytes_eq name) run_names
 run_is S n d own name at what named =
     ap (λ o. option_map_or (λ (d : Declaration). is_basic d.what && list_any (bytes_eq d.name) run_names) o false) at
     ∙ ap (λ w. is_basic w && list_any (bytes_eq d.name) run_names) what
     ∙ ap (λ name. list_any (bytes_eq name) run_names) named
 
 -- what the declaration of a field of a basic says
-record HasBasic (S : Schema) (C : Context) (template : Option ℕ) (E : Env) (f : Field) (name : Name) (wanted : Leaf) : Type 0 where
-  inner : Option ℕ
-  kind : field_kind S C template 0 E f ≡ kind_of_leaf C inner wanted
-  run : run_of_field S template f ≡ list_any (bytes_eq name) run_names
+pub record HasBasic (S : Schema) (C : Context) (template : Option ℕ) (E : Env) (f : Field) (name : Name) (wanted : Leaf) : Type 0 where
+  pub inner : Option ℕ
+  pub kind : field_kind S C template 0 E f ≡ kind_of_leaf C inner wanted
+  pub run : run_of_field S template f ≡ list_any (bytes_eq name) run_names
 
-has_basic : (S : Schema) → IsSchema S → (C : Context) (template : Option ℕ) (E : Env) (f : Field) (name : Name) (wanted : Leaf)
+pub has_basic : (S : Schema) → IsSchema S → (C : Context) (template : Option ℕ) (E : Env) (f : Field) (name : Name) (wanted : Leaf)
     → is_of_basic S name f ≡ true → is_own_template name ≡ false → listed_leaf name ≡ Some wanted → HasBasic S C template E f name wanted
 has_basic S is C template E f name wanted basic other listed =
     let b = of_basic S name f basic in
@@ -134,40 +134,49 @@ items_are_numbers S C d width little (suc n) i items h =
     let value = h.3 in
     subst (AreNumbers (256 ^ width)) (sym h.2) ((width, little, value.0, value.1, value.2), items_are_numbers S C d width little n (i + 1) h.1 h.4)
 
-number_row : (S : Schema) → IsSchema S → (C : Context) (E : Env) (f : Field) (name : Name) (width : ℕ) (signed little float : Bool) (value : Node)
-    → is_of_basic S name f ≡ true → is_own_template name ≡ false → listed_leaf name ≡ Some (leaf.Num width signed little float) → list_any (bytes_eq name) run_names ≡ false → IsArray f
-    → FormShape S C 63 (form_of S C None 0 E f) value → IsNumberRow (256 ^ width) value
-number_row S is C E f name width signed little float value basic other listed no_run array h =
+-- the items, as many as the length says
+pub number_items : (S : Schema) → IsSchema S → (C : Context) (E : Env) (f : Field) (name : Name) (width : ℕ) (signed little float : Bool) (value : Node)
+    → is_of_basic S name f ≡ true → is_own_template name ≡ false → listed_leaf name ≡ Some (leaf.Num width signed little float) → list_any (bytes_eq name) run_names ≡ false → (array : IsArray f)
+    → FormShape S C 63 (form_of S C None 0 E f) value
+    → (items : Members) × (value ≡ node.Row items) × Items (λ i. Shape S C 63 (Number width little)) 0 (formula_value S C E 0 array.size) items
+number_items S is C E f name width signed little float value basic other listed no_run array h =
     let b = has_basic S is C None E f name (leaf.Num width signed little float) basic other listed in
     let count = formula_value S C E 0 array.size in
     let form : form_of S C None 0 E f ≡ Row count (λ i. One (Number width little)) =
     array_form S C None E f array.size array.long array.flat ∙ ap (λ r. row_of r (field_kind S C None 0 E f) count) (b.run ∙ no_run) ∙ ap (λ k. Row count (λ i. One k)) b.kind in
     let row : FormShape S C 63 (Row count (λ i. One (Number width little))) value = subst (λ (form : Form). FormShape S C 63 form value) form h in
-    (row.0, row.1, items_are_numbers S C 63 width little count 0 row.0 row.2)
+    (row.0, row.1, row.2)
+
+number_row : (S : Schema) → IsSchema S → (C : Context) (E : Env) (f : Field) (name : Name) (width : ℕ) (signed little float : Bool) (value : Node)
+    → is_of_basic S name f ≡ true → is_own_template name ≡ false → listed_leaf name ≡ Some (leaf.Num width signed little float) → list_any (bytes_eq name) run_names ≡ false → IsArray f
+    → FormShape S C 63 (form_of S C None 0 E f) value → IsNumberRow (256 ^ width) value
+number_row S is C E f name width signed little float value basic other listed no_run array h =
+    let row = number_items S is C E f name width signed little float value basic other listed no_run array h in
+    (row.0, row.1, items_are_numbers S C 63 width little (formula_value S C E 0 array.size) 0 row.0 row.2)
 
 -- ---- sized strings
 
-uint_leaf : listed_leaf (codes "uint") ≡ Some (leaf.Num 4 false false false)
+pub uint_leaf : listed_leaf (codes "uint") ≡ Some (leaf.Num 4 false false false)
 unfolding listed_leaf
 uint_leaf = refl
 
-char_leaf : listed_leaf (codes "char") ≡ Some (leaf.Num 1 false false false)
+pub char_leaf : listed_leaf (codes "char") ≡ Some (leaf.Num 1 false false false)
 unfolding listed_leaf
 char_leaf = refl
 
-index_leaf : listed_leaf (codes "BlockTypeIndex") ≡ Some (leaf.Num 2 false false false)
+pub index_leaf : listed_leaf (codes "BlockTypeIndex") ≡ Some (leaf.Num 2 false false false)
 unfolding listed_leaf
 index_leaf = refl
 
-uint_other : is_own_template (codes "uint") ≡ false
+pub uint_other : is_own_template (codes "uint") ≡ false
 unfolding is_own_template
 uint_other = refl
 
-char_other : is_own_template (codes "char") ≡ false
+pub char_other : is_own_template (codes "char") ≡ false
 unfolding is_own_template
 char_other = refl
 
-index_other : is_own_template (codes "BlockTypeIndex") ≡ false
+pub index_other : is_own_template (codes "BlockTypeIndex") ≡ false
 unfolding is_own_template
 index_other = refl
 
@@ -180,27 +189,29 @@ plain_present : (S : Schema) (C : Context) (E : Env) (f : Field) → is_plain f 
 plain_present S C E f plain unbound = bare_present S C E (record f { length = None }) (rw (plain, unbound) refl)
 
 -- the two fields of a sized string
-record AreTwo (S : Schema) (fields : List Field) : Type 0 where
-  first : Field
-  second : Field
-  are : fields ≡ first ∷ second ∷ []
-  first_basic : is_of_basic S (codes "uint") first ≡ true
-  first_plain : is_plain first ≡ true
-  first_single : first.length ≡ None
-  first_unbound : has_no_bounds first ≡ true
-  second_basic : is_of_basic S (codes "char") second ≡ true
-  second_size : Formula
-  second_long : second.length ≡ Some second_size
-  second_plain : is_plain second ≡ true
-  second_unbound : has_no_bounds second ≡ true
+pub record AreTwo (S : Schema) (fields : List Field) : Type 0 where
+  pub first : Field
+  pub second : Field
+  pub are : fields ≡ first ∷ second ∷ []
+  pub first_named : is_named (codes "Length") first ≡ true
+  pub second_counted : is_bare_name (codes "Length") second.length ≡ true
+  pub first_basic : is_of_basic S (codes "uint") first ≡ true
+  pub first_plain : is_plain first ≡ true
+  pub first_single : first.length ≡ None
+  pub first_unbound : has_no_bounds first ≡ true
+  pub second_basic : is_of_basic S (codes "char") second ≡ true
+  pub second_size : Formula
+  pub second_long : second.length ≡ Some second_size
+  pub second_plain : is_plain second ≡ true
+  pub second_unbound : has_no_bounds second ≡ true
 
-flat_is : (f : Field) → is_plain f ≡ true → f.width ≡ None
+pub flat_is : (f : Field) → is_plain f ≡ true → f.width ≡ None
 flat_is f h =
     let a = right (is_none f.template) (is_none f.arg && (is_none f.width && _)) h in
     let w = right (is_none f.arg) (is_none f.width && _) a in
     none_is f.width (left (is_none f.width) _ w)
 
-two_fields : (S : Schema) (fields : List Field) → are_sized S fields ≡ true → AreTwo S fields
+pub two_fields : (S : Schema) (fields : List Field) → are_sized S fields ≡ true → AreTwo S fields
 two_fields S [] h = absurd (true≢false (sym h))
 two_fields S (f ∷ []) h = absurd (true≢false (sym h))
 two_fields S (f ∷ g ∷ k ∷ fields) h = absurd (true≢false (sym h))
@@ -218,6 +229,8 @@ two_fields S (f ∷ g ∷ []) h =
       first = f;
       second = g;
       are = refl;
+      first_named = left (is_named (codes "Length") f) (is_of_basic S (codes "uint") f && is_bare f) (left sf sg h);
+      second_counted = left (is_bare_name (codes "Length") g.length) (is_plain g && has_no_bounds g) long;
       first_basic = left (is_of_basic S (codes "uint") f) (is_bare f) hf;
       first_plain = left (is_plain f) (is_none f.length && has_no_bounds f) bare;
       first_single = none_is f.length (left (is_none f.length) (has_no_bounds f) rest);
@@ -252,7 +265,7 @@ two_members members rest a b last size bytes first second none is_size are_bytes
 grouped : (value : Node) (members others : Members) → value ≡ node.Group members → members ≡ others → value ≡ node.Group others
 grouped value members others is same = cc
 
-string_value : (S : Schema) → IsSchema S → (C : Context) (d : ℕ) (fields : List Field) (template : Option ℕ) (value : Node)
+pub string_value : (S : Schema) → IsSchema S → (C : Context) (d : ℕ) (fields : List Field) (template : Option ℕ) (value : Node)
     → AreTwo S fields → Shape S C (suc d) (Group fields template 0) value → IsString value
 string_value S is C d fields template value two h =
     let f = two.first in
@@ -273,7 +286,7 @@ string_value S is C d fields template value two h =
 
 -- ---- rows of sized strings
 
-struct_by : (S : Schema) (o : Option ℕ) → option_map_or is_struct (option_and_then (what_at S) o) false ≡ true → (n : ℕ) × (o ≡ Some n) × (what_at S n ≡ Some Struct)
+pub struct_by : (S : Schema) (o : Option ℕ) → option_map_or is_struct (option_and_then (what_at S) o) false ≡ true → (n : ℕ) × (o ≡ Some n) × (what_at S n ≡ Some Struct)
 struct_by S None h = absurd (true≢false (sym h))
 struct_by S (Some n) h = (n, refl, declared (what_at S n) h)
   where
@@ -284,22 +297,22 @@ struct_by S (Some n) h = (n, refl, declared (what_at S n) h)
     declared (Some Struct) h = refl
     declared (Some (Block parent is_abstract)) h = absurd (true≢false (sym h))
 
-of_struct : (S : Schema) (name : Name) (f : Field) → is_of_struct S name f ≡ true → (bytes_eq f.kind name ≡ true) × (declares S is_struct name ≡ true)
+pub of_struct : (S : Schema) (name : Name) (f : Field) → is_of_struct S name f ≡ true → (bytes_eq f.kind name ≡ true) × (declares S is_struct name ≡ true)
 unfolding is_of_struct
 of_struct S name f h = (left (bytes_eq f.kind name) (declares S is_struct name) h, right (bytes_eq f.kind name) (declares S is_struct name) h)
 
-struct_declared : (S : Schema) (n : ℕ) → what_at S n ≡ Some Struct → (d : Declaration) × (slice_get S n ≡ Some d) × (d.what ≡ Struct)
+pub struct_declared : (S : Schema) (n : ℕ) → what_at S n ≡ Some Struct → (d : Declaration) × (slice_get S n ≡ Some d) × (d.what ≡ Struct)
 struct_declared S n h = by (slice_get S n) refl h
   where
     by : (o : Option Declaration) → slice_get S n ≡ o → option_and_then (λ d. Some d.what) o ≡ Some Struct → (d : Declaration) × (slice_get S n ≡ Some d) × (d.what ≡ Struct)
     by None e h = absurd (cc)
     by (Some d) e h = (d, e, cc)
 
-struct_run : (S : Schema) (n : ℕ) (d : Declaration) → slice_get S n ≡ Some d → d.what ≡ Struct → is_run S n ≡ false
+pub struct_run : (S : Schema) (n : ℕ) (d : Declaration) → slice_get S n ≡ Some d → d.what ≡ Struct → is_run S n ≡ false
 struct_run S n d at what =
     ap (λ o. option_map_or (λ (d : Declaration). is_basic d.what && list_any (bytes_eq d.name) run_names) o false) at ∙ ap (λ w. is_basic w && list_any (bytes_eq d.name) run_names) what
 
-struct_kind : (S : Schema) (C : Context) (n : ℕ) (template : Option ℕ) → what_at S n ≡ Some Struct → kind_of S C n template 0 ≡ Group (line S n) template 0
+pub struct_kind : (S : Schema) (C : Context) (n : ℕ) (template : Option ℕ) → what_at S n ≡ Some Struct → kind_of S C n template 0 ≡ Group (line S n) template 0
 struct_kind S C n template struct = rw struct refl
 
 items_are_strings : (S : Schema) → IsSchema S → (C : Context) (d : ℕ) (fields : List Field) (template : Option ℕ) → AreTwo S fields → (n i : ℕ) (items : Members)
@@ -308,13 +321,16 @@ items_are_strings S is C d fields template two zero i items h = subst AreStrings
 items_are_strings S is C d fields template two (suc n) i items h =
     subst AreStrings (sym h.2) (string_value S is C d fields template h.0 two h.3, items_are_strings S is C d fields template two n (i + 1) h.1 h.4)
 
-sized_are : (S : Schema) (n : ℕ) → find S (codes "SizedString") ≡ Some n → sized_fields S ≡ fields_of S n
+pub sized_are : (S : Schema) (n : ℕ) → find S (codes "SizedString") ≡ Some n → sized_fields S ≡ fields_of S n
 unfolding sized_fields
 sized_are S n found = ap (λ o. option_map_or (fields_of S) o []) found
 
-string_row : (S : Schema) → IsSchema S → (C : Context) (E : Env) (f : Field) (value : Node) → is_of_struct S (codes "SizedString") f ≡ true → are_sized S (sized_fields S) ≡ true → IsArray f
-    → FormShape S C 63 (form_of S C None 0 E f) value → IsStringRow value
-string_row S is C E f value struct sized array h =
+-- the items, as many as the length says
+pub string_items : (S : Schema) → IsSchema S → (C : Context) (E : Env) (f : Field) (value : Node) → is_of_struct S (codes "SizedString") f ≡ true → (array : IsArray f)
+    → FormShape S C 63 (form_of S C None 0 E f) value 
+    → (template : Option ℕ) × (items : Members) × (value ≡ node.Row items)
+    × Items (λ i. Shape S C 63 (Group (sized_fields S) template 0)) 0 (formula_value S C E 0 array.size) items
+string_items S is C E f value struct array h =
     let b = of_struct S (codes "SizedString") f struct in
     let r = struct_by S (find S (codes "SizedString")) b.1 in
     let n = r.0 in
@@ -332,18 +348,24 @@ string_row S is C E f value struct sized array h =
     let form : form_of S C None 0 E f ≡ Row count (λ i. One (Group (sized_fields S) template 0)) =
     array_form S C None E f array.size array.long array.flat ∙ ap (λ r. row_of r (field_kind S C None 0 E f) count) run ∙ ap (λ k. Row count (λ i. One k)) kind in
     let row : FormShape S C 63 (Row count (λ i. One (Group (sized_fields S) template 0))) value = subst (λ (form : Form). FormShape S C 63 form value) form h in
-    (row.0, row.1, items_are_strings S is C 62 (sized_fields S) template (two_fields S (sized_fields S) sized) count 0 row.0 row.2)
+    (template, row.0, row.1, row.2)
+
+string_row : (S : Schema) → IsSchema S → (C : Context) (E : Env) (f : Field) (value : Node) → is_of_struct S (codes "SizedString") f ≡ true → are_sized S (sized_fields S) ≡ true → IsArray f
+    → FormShape S C 63 (form_of S C None 0 E f) value → IsStringRow value
+string_row S is C E f value struct sized array h =
+    let row = string_items S is C E f value struct array h in
+    (row.1, row.2, items_are_strings S is C 62 (sized_fields S) row.0 (two_fields S (sized_fields S) sized) (formula_value S C E 0 array.size) 0 row.1 row.3)
 
 -- ---- the rules of the lists
 
-types_rule : (S : Schema) (fields : List Field) (f : Field) → has_lists S fields ≡ true → Among fields f → is_named (codes "Block Types") f ≡ true → are_strings S (codes "Num Block Types") f ≡ true
+pub types_rule : (S : Schema) (fields : List Field) (f : Field) → has_lists S fields ≡ true → Among fields f → is_named (codes "Block Types") f ≡ true → are_strings S (codes "Num Block Types") f ≡ true
 unfolding has_lists has_type_lists
 types_rule S fields f h is named =
     let types = left (has_type_lists S fields) (has_block_lists S fields && has_string_lists S fields) h in
     let one = right (is_once (codes "Num Block Types") (is_type_count S) fields) (is_once (codes "Block Types") (are_strings S (codes "Num Block Types")) fields) types in
     passes_once (are_strings S (codes "Num Block Types")) (codes "Block Types") fields f one is named
 
-blocks_rule : (S : Schema) (fields : List Field) → has_lists S fields ≡ true
+pub blocks_rule : (S : Schema) (fields : List Field) → has_lists S fields ≡ true
     → (is_once (codes "Block Type Index") (are_numbers S (codes "BlockTypeIndex")) fields ≡ true) × (is_once (codes "Block Size") (are_numbers S (codes "uint")) fields ≡ true)
 unfolding has_lists has_block_lists
 blocks_rule S fields h =
@@ -353,11 +375,11 @@ blocks_rule S fields h =
     let b = is_once (codes "Block Size") (are_numbers S (codes "uint")) fields in
     (left a b blocks, right a b blocks)
 
-strings_are : (S : Schema) (name : Name) (f : Field) → are_strings S name f ≡ true → (is_of_struct S (codes "SizedString") f ≡ true) × (has_length name f ≡ true)
+pub strings_are : (S : Schema) (name : Name) (f : Field) → are_strings S name f ≡ true → (is_of_struct S (codes "SizedString") f ≡ true) × (has_length name f ≡ true)
 unfolding are_strings
 strings_are S name f h = (left (is_of_struct S (codes "SizedString") f) (has_length name f) h, right (is_of_struct S (codes "SizedString") f) (has_length name f) h)
 
-numbers_are : (S : Schema) (basic : Name) (f : Field) → are_numbers S basic f ≡ true → (is_of_basic S basic f ≡ true) × (has_length (codes "Num Blocks") f ≡ true)
+pub numbers_are : (S : Schema) (basic : Name) (f : Field) → are_numbers S basic f ≡ true → (is_of_basic S basic f ≡ true) × (has_length (codes "Num Blocks") f ≡ true)
 unfolding are_numbers
 numbers_are S basic f h = (left (is_of_basic S basic f) (has_length (codes "Num Blocks") f) h, right (is_of_basic S basic f) (has_length (codes "Num Blocks") f) h)
 
@@ -370,7 +392,7 @@ any_among q (g ∷ fields) f (inr later) said = by (q g) (any_among q fields f l
     by true h = refl
     by false h = h
 
-sized_rule : (S : Schema) (fields : List Field) (f : Field) → has_sized_strings S fields ≡ true → Among fields f → is_named (codes "Block Types") f ≡ true → are_sized S (sized_fields S) ≡ true
+pub sized_rule : (S : Schema) (fields : List Field) (f : Field) → has_sized_strings S fields ≡ true → Among fields f → is_named (codes "Block Types") f ≡ true → are_sized S (sized_fields S) ≡ true
 unfolding has_sized_strings
 sized_rule S fields f h is named = by (list_any (is_named (codes "Block Types")) fields) (list_any (is_named (codes "Strings")) fields) (any_among (is_named (codes "Block Types")) fields f is named) h
   where
@@ -381,14 +403,14 @@ sized_rule S fields f h is named = by (list_any (is_named (codes "Block Types"))
 -- ---- the members of the header
 
 -- a present member is the value of a field of its name
-record IsFrom (S : Schema) (name : Name) (value : Node) : Type 0 where
-  before : Env
-  field : Field
-  among : Among (header_fields S) field
-  named : is_named name field ≡ true
-  is : FormShape S (header_context S before) 63 (form_of S (header_context S before) None 0 before field) value
+pub record IsFrom (S : Schema) (name : Name) (value : Node) : Type 0 where
+  pub before : Env
+  pub field : Field
+  pub among : Among (header_fields S) field
+  pub named : is_named name field ≡ true
+  pub is : FormShape S (header_context S before) 63 (form_of S (header_context S before) None 0 before field) value
 
-is_from : (S : Schema) → Roles S → (members : Members) → IsHeaderLine S members → (name : Name) (value : Node) → member name (head_of S members) ≡ Some value → IsFrom S name value
+pub is_from : (S : Schema) → Roles S → (members : Members) → IsHeaderLine S members → (name : Name) (value : Node) → member name (head_of S members) ≡ Some value → IsFrom S name value
 is_from S roles members h name value e = by (last_present name (head_of S members)) refl e
   where
     V : Env → Field → Node → Type 0
