@@ -16,7 +16,7 @@ use Rattle.nif_schema.specs.Uses.{named, what_at, is_own_template, is_struct}
 use Rattle.nif_schema.specs.Uses as uses
 use Rattle.nif_schema.specs.Paths as paths
 use Rattle.nif_schema.specs.Paths.{path_reason, paths_of, fields_named, is_header_path, type_of}
-use Rattle.nif_schema.specs.Reasons.{first_reason, fields_reason, field_reason, formula_reason, kind_reason, template_reason, line_above, own_reason}
+use Rattle.nif_schema.specs.Reasons.{first_reason, fields_reason, field_reason, formula_reason, width_reason, width_where, reason_where, is_bad_bound, is_no_block, is_bad_exact, kind_reason, template_reason, line_above, own_reason}
 use Rattle.nif_schema.specs.Roles.{Roles, header_fields, is_named, is_bare_name, is_of_basic, has_length}
 use Rattle.nif_schema.specs.declared.decls.Leaf.{Leaf}
 use Rattle.nif_schema.specs.declared.decls.Leaf.TheVariants as leaf
@@ -27,7 +27,7 @@ use Rattle.nif_schema.specs.declared.faults.Closed.TheVariants as closed
 use Rattle.nif_layout.specs.Context.{Context}
 use Rattle.nif_layout.specs.Earlier.{Env, behind, has_name, last_present, passed}
 use Rattle.nif_layout.specs.Members.{Member, Check, Fields}
-use Rattle.nif_layout.specs.OpenTypeLaws.{no_first, own_facts}
+use Rattle.nif_layout.specs.OpenTypeLaws.{no_first, no_reason_at, own_facts}
 use Rattle.nif_layout.specs.PathValue.{is_signed, leaf_of, is_signed_leaf, number_in, found, follow, path_value}
 use Rattle.nif_layout.specs.PathValue as path
 use Rattle.nif_layout.specs.Present.{formula_value, present}
@@ -154,7 +154,7 @@ only_front name (g ∷ front) back (suc k) is h = elim (either (bytes_eq name g.
 
 -- ---- a length that is the bare name of a field
 
-bare_is : (name : Name) (l : Formula) → is_bare_name name (Some l) ≡ true → l ≡ Read (Path (name ∷ []))
+pub bare_is : (name : Name) (l : Formula) → is_bare_name name (Some l) ≡ true → l ≡ Read (Path (name ∷ []))
 bare_is name Bad h = absurd (true≢false (sym h))
 bare_is name (Read (Number value)) h = absurd (true≢false (sym h))
 bare_is name (Read Arg) h = absurd (true≢false (sym h))
@@ -164,7 +164,7 @@ bare_is name (Read (Path (first ∷ second ∷ names))) h = absurd (true≢false
 bare_is name (Read (Not of)) h = absurd (true≢false (sym h))
 bare_is name (Read (Two op a b)) h = absurd (true≢false (sym h))
 
-bare_value : (S : Schema) (C : Context) (E : Env) (name : Name) → has_name name E ≡ true
+pub bare_value : (S : Schema) (C : Context) (E : Env) (name : Name) → has_name name E ≡ true
     → formula_value S C E 0 (Read (Path (name ∷ []))) ≡ path.number_of S (found (last_present name E))
 bare_value S C E name has =
     let names : List Name = name ∷ [] in
@@ -204,15 +204,13 @@ length_reason : (S : Schema) (b : Bool) (earlier : List Field) (f : Field) → f
     → formula_reason S earlier f.length ≡ None
 unfolding field_reason
 length_reason S b earlier f e =
-    let r1 = no_first (kind_reason S b f) _ e in
-    let r2 = no_first (template_reason S b f) _ r1.1 in
-    let r3 = no_first _ _ r2.1 in
-    let r4 = no_first _ _ r3.1 in
-    let r5 = no_first _ _ r4.1 in
-    let r6 = no_first (formula_reason S earlier f.vercond) _ r5.1 in
-    let r7 = no_first (formula_reason S earlier f.cond) _ r6.1 in
-    let r8 = no_first (formula_reason S earlier f.arg) _ r7.1 in
-    (no_first (formula_reason S earlier f.length) _ r8.1).0
+    let reasons : List (Option Closed) =
+    kind_reason S b f ∷ template_reason S b f ∷ reason_where closed.C11 (is_bad_bound f.since || is_bad_bound f.until)
+    ∷ reason_where closed.C12 (is_no_block S f.only || is_no_block S f.exclude)
+    ∷ reason_where closed.C4 (is_bad_exact f.user || is_bad_exact f.bs) ∷ formula_reason S earlier f.vercond
+    ∷ formula_reason S earlier f.cond ∷ formula_reason S earlier f.arg ∷ formula_reason S earlier f.length
+    ∷ width_reason S earlier (width_where f.length f.width) ∷ [] in
+    no_reason_at reasons 8 (formula_reason S earlier f.length) e refl
 
 named_some : (name : Name) (fields : List Field) → list_any (λ (g : Field). bytes_eq name g.name) fields ≡ false → fields_named name fields ≡ []
 named_some name [] h = refl

@@ -18,6 +18,9 @@ pub mod MemberReading
 pub mod HeadSmall
 pub mod FieldPlaces
 pub mod Counting
+pub mod Targets
+pub mod Telling
+pub mod Again
 pub mod HeaderEnds
 pub mod LineReading
 pub mod Noting

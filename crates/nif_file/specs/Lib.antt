@@ -18,3 +18,4 @@ pub mod BlockLaws
 pub mod FaultLaws
 pub mod RoleLaws
 pub mod HeaderShapes
+pub mod GraphOf
