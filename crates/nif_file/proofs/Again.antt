@@ -210,9 +210,10 @@ module _ (S : Schema) (is : IsSchema S) (roles : Roles S) (F : File) (bytes : Li
 
   blocks_below : (n k : ℕ) (blocks : List Block) → number_of (codes "Num Blocks") E ≡ n → AreBlocks S E k blocks → BlocksBelow n blocks
   blocks_below n k [] e are = tt
-  blocks_below n k (b ∷ blocks) e are =
-      (subst (λ m. Below m b.node) e (below_shape S (block_context S E b.kind) 64 (block_kind S E b.kind) b.node are.0.value),
-      blocks_below n (k + 1) blocks e are.1)
+  blocks_below n k (b ∷ blocks) e are = (
+    subst (λ m. Below m b.node) e (below_shape S (block_context S E b.kind) 64 (block_kind S E b.kind) b.node are.0.value),
+    blocks_below n (k + 1) blocks e are.1,
+  )
 
   pub again : (origin : Origin) → numbered places (graph_of places origin (types_in (head_in S F)) F) ≡ F
   unfolding types told

@@ -223,7 +223,7 @@ earlier_named : (S : Schema) (earlier : List Field) (name : Name) → is_header_
 earlier_named S earlier name other e = by (list_any (λ (g : Field). bytes_eq name g.name) earlier) refl
   where
     Reason : List paths.Meaning → Option Closed
-    Reason l = elim l [ | [] ↦ if is_header_path (name ∷ []) then None else Some closed.C5 | m ∷ ms ↦ paths.rest_reason S (m ∷ ms) [] ]
+    Reason l = elim l [ [] ↦ if is_header_path (name ∷ []) then None else Some closed.C5 | m ∷ ms ↦ paths.rest_reason S (m ∷ ms) [] ]
 
     by : (t : Bool) → list_any (λ (g : Field). bytes_eq name g.name) earlier ≡ t → t ≡ true
     by true h = refl
@@ -264,9 +264,11 @@ module _ (S : Schema) (roles : Roles S) (members : Members) (h : IsHeaderLine S 
           let facts = own_facts S number d e (roles.roots.is_header.opens number (uses.Here number)) in
           let fields : d.fields ≡ header_line S =
           sym (header_line_is S number roles.roots.is_header ∙ header_is S number roles.roots.is_header.found
-          ∙ ap (λ o. option_map_or (λ (d : Declaration). d.fields) o []) e) in
-          (is_struct d.what, subst (λ l. fields_reason S (is_struct d.what) [] l ≡ None) fields
-          (subst (λ l. fields_reason S (is_struct d.what) l d.fields ≡ None) above facts.fields))
+          ∙ ap (λ o. option_map_or (λ (d : Declaration). d.fields) o []) e) in (
+            is_struct d.what,
+            subst (λ l. fields_reason S (is_struct d.what) [] l ≡ None) fields
+                (subst (λ l. fields_reason S (is_struct d.what) l d.fields ≡ None) above facts.fields),
+          )
 
   abbrev V : Env → Field → Node → Type 0
   V E f = FormShape S (header_context S E) 63 (form_of S (header_context S E) None 0 E f)

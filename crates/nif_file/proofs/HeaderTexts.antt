@@ -17,11 +17,10 @@ use Rattle.nif_layout.specs.Members.{Member, Check, Fields, fields_text}
 use Rattle.nif_layout.specs.Shape.{FormShape}
 use Rattle.nif_layout.specs.Present.{present}
 use Rattle.nif_layout.specs.Form.{form_of}
-use Rattle.nif_encode.specs.Texts.{text_at, texts_from, HasMembers}
 use Rattle.nif_file.specs.Head.{order_in, header_context}
 use Rattle.nif_file.specs.Checks.{header_check}
 use Rattle.nif_file.specs.Files.{header_line, head_of, header_text, IsHeaderLine}
-use Rattle.nif_file.specs.PartsText.{up_to, header_part}
+use Rattle.nif_file.specs.PartsText.{up_to, text_at, texts_from, header_part}
 use Rattle.nif_file.specs.PlaceLaws.{neither, other_name, none_named}
 use Rattle.nif_file.specs.RoleLaws.{left, header_is, header_line_is}
 
@@ -228,17 +227,3 @@ header_parts S roles members h =
 -- the fields of the header are those of its declaration
 pub fields_are : (S : Schema) (n : ℕ) (d : Declaration) → find S (codes "Header") ≡ Some n → slice_get S n ≡ Some d → header_fields S ≡ d.fields
 fields_are S n d found at = header_is S n found ∙ ap (λ (o : Option Declaration). option_map_or (λ d. d.fields) o []) at
-
--- fewer members are there too
-has_fewer : (m n : ℕ) (value : Node) → m ≤ n → HasMembers n value → HasMembers m value
-has_fewer m n (Group members) le h = omega (arith, le, h)
-has_fewer m n (Num width little bits) le h = h
-has_fewer m n (Line bytes) le h = h
-has_fewer m n (Ref strong wanted target) le h = h
-has_fewer m n (Text index) le h = h
-has_fewer m n (Bytes bytes) le h = h
-has_fewer m n (Row items) le h = h
-
-pub fewer_members : (m n : ℕ) (found : Option Node) → m ≤ n → IsSomeAnd found (HasMembers n) → IsSomeAnd found (HasMembers m)
-fewer_members m n None le h = h
-fewer_members m n (Some value) le h = has_fewer m n value le h

@@ -11,8 +11,9 @@ pub mod HeaderSteps
 pub mod KnownValues
 pub mod KnownFiles
 pub mod HeaderTexts
-pub mod PartsTexts
 pub mod PartsPuts
+pub mod HeaderPuts
+pub mod WholePuts
 pub mod HeadMembers
 pub mod MemberReading
 pub mod HeadSmall

@@ -35,9 +35,11 @@ use Rattle.nif_file.specs.Files.{IsFile, IsBlock, AreBlocks, header_line, head_o
 use Rattle.nif_file.specs.GraphOf.{origin_in, types_in}
 use Rattle.nif_file.specs.HeaderParts.{IsPlaceOf}
 use Rattle.nif_file.specs.Heads.{ArePlaces}
-use Rattle.nif_file.specs.HeaderShapes.{AreTwo, IsArray, is_array, array_form, has_basic, string_items, number_items, two_fields, single_form, uint_leaf, char_leaf, index_leaf, uint_other, char_other, index_other, flat_is, strings_are, numbers_are, types_rule, blocks_rule, sized_rule}
+use Rattle.nif_file.specs.HeaderShapes.{AreTwo, IsArray, is_array, array_form, has_basic, string_items, number_items, two_fields, single_form, uint_leaf, char_leaf, index_leaf, uint_other, char_other, index_other, flat_is, strings_are, numbers_are, types_rule, blocks_rule, sized_rule, types_shape, index_shape, sizes_shape}
 use Rattle.nif_file.specs.LengthLaws.{length_text}
+use Rattle.nif_file.specs.PartsText.{Suits, SuitsAt, telling_at}
 use Rattle.nif_file.specs.PlaceLaws.{place_member}
+use Rattle.nif_file.specs.declared.encode_header.Telling.TheVariants as telling
 use Rattle.nif_file.specs.RoleLaws.{Among, passes_once, header_line_is, bare_present}
 use Rattle.nif_file.proofs.Counting.{Stands, stands, bare_is, bare_value, unsigned, count_is}
 use Rattle.nif_file.proofs.HeadNumbers as head
@@ -159,9 +161,10 @@ strings_exact S is C d fields template two (suc n) i items h =
 pub each_member : (P : ℕ → Node → Type 0) (n : ℕ) (members : Members)
     → ((k : ℕ) (at : Node) → member_at members k ≡ Some at → P (n + k) at) → EachMember P n members
 each_member P n End each = tt
-each_member P n (Here at rest) each =
-    (subst (λ m. P m at) (omega arith) (each 0 at refl),
-    each_member P (suc n) rest (λ k x e. subst (λ m. P m x) (let e : n + suc k ≡ suc n + k = omega arith in e) (each (suc k) x e)))
+each_member P n (Here at rest) each = (
+  subst (λ m. P m at) (omega arith) (each 0 at refl),
+  each_member P (suc n) rest (λ k x e. subst (λ m. P m x) (let e : n + suc k ≡ suc n + k = omega arith in e) (each (suc k) x e)),
+)
 each_member P n (Absent rest) each =
     each_member P (suc n) rest (λ k x e. subst (λ m. P m x) (let e : n + suc k ≡ suc n + k = omega arith in e) (each (suc k) x e))
 
@@ -302,10 +305,11 @@ module _ (S : Schema) (is : IsSchema S) (roles : Roles S) (places : RolePlaces) 
       (subst (IsPlaceOf (codes "Num Block Types") (header_line S)) count_place at.num_types) types_path types_plain s
       (header_context S s.before) array.size array.long (both_true (is_bare_name (codes "Num Block Types") s.field.length) (is_none s.field.width && is_none s.field.arg) r.1).0 in
       let names : type_names E ≡ strings_in row.1 =
-      ap row_in (there_member (codes "Block Types") k value place' there) ∙ ap (λ v. row_in (Some v)) row.2 in
-      (ap (λ l. with_items (strings l) value) names ∙ ap (with_items (strings (strings_in row.1))) row.2
-      ∙ ap (λ m. node.Row m) (sym exactly.0) ∙ sym row.2,
-      ap length names ∙ exactly.1 ∙ counted)
+      ap row_in (there_member (codes "Block Types") k value place' there) ∙ ap (λ v. row_in (Some v)) row.2 in (
+        ap (λ l. with_items (strings l) value) names ∙ ap (with_items (strings (strings_in row.1))) row.2
+            ∙ ap (λ m. node.Row m) (sym exactly.0) ∙ sym row.2,
+        ap length names ∙ exactly.1 ∙ counted,
+      )
 
   -- a row of numbers, one for each block
   numbers_told : (name basic : Name) (width k : ℕ) (value : Node) → IsPlaceOf name (header_line S) (Some k) → member_at members k ≡ Some value
@@ -352,3 +356,69 @@ module _ (S : Schema) (is : IsSchema S) (roles : Roles S) (places : RolePlaces) 
       (subst (IsPlaceOf (codes "Block Size") (header_line S)) place at.sizes) there uint_leaf uint_other refl
       (λ f a named. passes_once (are_numbers S (codes "uint")) (codes "Block Size") (header_fields S) f
       (blocks_rule S (header_fields S) roles.lists).1 a named) values long each
+
+  -- ---- what is told can stand there
+
+  pub blocks_suit : (value : Node) → member_at members places.num_blocks ≡ Some value → Suits telling.Blocks value
+  blocks_suit value there =
+      let s = standing (codes "Num Blocks") places.num_blocks value at.num_blocks there in
+      let rule = head.count_rule S (header_fields S) s.field roles.count (field_among (codes "Num Blocks") value s) s.named in
+      let shape = head.basic_value S is (header_context S s.before) s.before s.field (codes "ulittle32") (leaf.Num 4 false true false) value rule.0 rule.1 little_leaf s.is in
+      subst (Suits telling.Blocks) (sym shape.1) refl
+
+  pub count_suits : (k : ℕ) (value : Node) → places.num_types ≡ Some k → member_at members k ≡ Some value → Suits telling.TypeCount value
+  count_suits k value place there =
+      let place' = subst (IsPlaceOf (codes "Num Block Types") (header_line S)) place at.num_types in
+      let s = standing (codes "Num Block Types") k value place' there in
+      let rule = small.types_rule S (header_fields S) s.field roles.lists (field_among (codes "Num Block Types") value s) s.named in
+      by s (is_of_basic S (codes "ushort") s.field) refl rule.0 rule.1
+    where
+      by : (s : Stands V (header_line S) [] members (codes "Num Block Types") value) → (b : Bool)
+          → is_of_basic S (codes "ushort") s.field ≡ b → (b || is_of_basic S (codes "uint") s.field) ≡ true → s.field.length ≡ None
+          → Suits telling.TypeCount value
+      by s true e r single =
+          let shape = head.basic_value S is (header_context S s.before) s.before s.field (codes "ushort") (leaf.Num 2 false false false) value e single ushort_leaf s.is in
+          subst (Suits telling.TypeCount) (sym shape.1) refl
+      by s false e r single =
+          let shape = head.basic_value S is (header_context S s.before) s.before s.field (codes "uint") (leaf.Num 4 false false false) value r single uint_leaf s.is in
+          subst (Suits telling.TypeCount) (sym shape.1) refl
+
+  pub types_suit : (k : ℕ) (value : Node) → places.types ≡ Some k → member_at members k ≡ Some value → Suits telling.Types value
+  types_suit k value place there =
+      let place' = subst (IsPlaceOf (codes "Block Types") (header_line S)) place at.types in
+      let row = types_shape S is roles members h value (there_member (codes "Block Types") k value place' there) in
+      subst (Suits telling.Types) (sym row.1) refl
+
+  pub index_suits : (k : ℕ) (value : Node) → places.index ≡ Some k → member_at members k ≡ Some value → Suits telling.Index value
+  index_suits k value place there =
+      let place' = subst (IsPlaceOf (codes "Block Type Index") (header_line S)) place at.index in
+      let row = index_shape S is roles members h value (there_member (codes "Block Type Index") k value place' there) in
+      subst (Suits telling.Index) (sym row.1) refl
+
+  pub sizes_suit : (k : ℕ) (value : Node) → places.sizes ≡ Some k → member_at members k ≡ Some value → Suits telling.Sizes value
+  sizes_suit k value place there =
+      let place' = subst (IsPlaceOf (codes "Block Size") (header_line S)) place at.sizes in
+      let row = sizes_shape S is roles members h value (there_member (codes "Block Size") k value place' there) in
+      subst (Suits telling.Sizes) (sym row.1) refl
+
+  -- by what is told at a place
+  pub told_suits : (indexed : Bool) (k : ℕ) (value : Node) → member_at members k ≡ Some value → SuitsAt (telling_at places indexed k) value
+  told_suits indexed k value there =
+      by (k == places.num_blocks) refl (option_map_or (λ p. k == p) places.sizes false) refl
+      (indexed && option_map_or (λ p. k == p) places.num_types false) refl
+      (indexed && option_map_or (λ p. k == p) places.types false) refl
+      (indexed && option_map_or (λ p. k == p) places.index false) refl
+    where
+      by : (a : Bool) → (k == places.num_blocks) ≡ a → (b : Bool) → option_map_or (λ p. k == p) places.sizes false ≡ b
+          → (c : Bool) → (indexed && option_map_or (λ p. k == p) places.num_types false) ≡ c
+          → (d : Bool) → (indexed && option_map_or (λ p. k == p) places.types false) ≡ d
+          → (e : Bool) → (indexed && option_map_or (λ p. k == p) places.index false) ≡ e
+          → SuitsAt (if a then Some telling.Blocks else if b then Some telling.Sizes else if c then Some telling.TypeCount
+          else if d then Some telling.Types else if e then Some telling.Index else None) value
+      by true ea b eb c ec d ed e ee =
+          blocks_suit value (ap (member_at members) (sym (eqb-true k places.num_blocks ea)) ∙ there)
+      by false ea true eb c ec d ed e ee = sizes_suit k value (at_place k places.sizes eb) there
+      by false ea false eb true ec d ed e ee = count_suits k value (at_place k places.num_types (both_true indexed _ ec).1) there
+      by false ea false eb false ec true ed e ee = types_suit k value (at_place k places.types (both_true indexed _ ed).1) there
+      by false ea false eb false ec false ed true ee = index_suits k value (at_place k places.index (both_true indexed _ ee).1) there
+      by false ea false eb false ec false ed false ee = tt

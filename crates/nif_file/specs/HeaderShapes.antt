@@ -327,7 +327,7 @@ sized_are S n found = ap (λ o. option_map_or (fields_of S) o []) found
 
 -- the items, as many as the length says
 pub string_items : (S : Schema) → IsSchema S → (C : Context) (E : Env) (f : Field) (value : Node) → is_of_struct S (codes "SizedString") f ≡ true → (array : IsArray f)
-    → FormShape S C 63 (form_of S C None 0 E f) value 
+    → FormShape S C 63 (form_of S C None 0 E f) value
     → (template : Option ℕ) × (items : Members) × (value ≡ node.Row items)
     × Items (λ i. Shape S C 63 (Group (sized_fields S) template 0)) 0 (formula_value S C E 0 array.size) items
 string_items S is C E f value struct array h =

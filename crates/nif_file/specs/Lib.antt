@@ -7,7 +7,6 @@ pub mod Files
 pub mod FileFails
 pub mod FileLaws
 pub mod HeaderParts
-pub mod PartsSay
 pub mod PartsText
 pub mod Heads
 pub mod HeaderReading

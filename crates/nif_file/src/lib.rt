@@ -7,6 +7,7 @@
 #![tactic(auto)]
 
 pub mod encode;
+mod encode_header;
 pub mod faults;
 pub mod header;
 mod heads;

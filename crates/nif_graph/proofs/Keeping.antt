@@ -118,6 +118,26 @@ name_lives store (suc k) (c ∷ slots) s h = elim (test (s.name == c.name)) [
   | inr q ↦ rw q (name_lives store k slots s h)
 ]
 
+-- a block is found by its name
+pub found_by_name : (blocks : List Named) (k : ℕ) (b : Named) → Different blocks → slice_get blocks k ≡ Some b
+    → find b.name blocks ≡ Some b.block
+found_by_name [] k b d h = absurd cc
+found_by_name (c ∷ blocks) zero b d h =
+    let e : c ≡ b = named_same h in
+    rw (eq-eqb b.name c.name (ap (λ (x : Named). x.name) (sym e))) (ap (λ (x : Named). Some x.block) e)
+  where
+    named_same : {x y : Named} → Some x ≡ Some y → x ≡ y
+    named_same {x} {y} e = ap (λ o. unwrap_or o x) e
+found_by_name (c ∷ blocks) (suc k) b d h =
+    let there : find b.name blocks ≡ Some b.block = found_by_name blocks k b d.1 h in
+    elim (test (b.name == c.name)) [
+      | inl q ↦
+          let e : b.name ≡ c.name = eqb-true b.name c.name q in
+          let none : find b.name blocks ≡ None = ap (λ n. find n blocks) e ∙ d.0 in
+          let both : Some b.block ≡ None = sym there ∙ none in absurd cc
+      | inr q ↦ rw q there
+    ]
+
 pub get_map : {A B : Type 0} (f : A → B) (xs : List A) (k : ℕ) (x : A) → slice_get xs k ≡ Some x
     → slice_get (map f xs) k ≡ Some (f x)
 get_map f [] k x h = absurd cc

@@ -13,7 +13,7 @@ use Rattle.nif_graph.specs.Graph.{find, is_live, place, reference, kind_of, IsGr
 use Rattle.nif_graph.specs.Slots.{place_in}
 use Rattle.nif_graph.specs.State.{GraphState, node_at, origin_of}
 use Rattle.nif_graph.specs.Kept.{named_in, kept_graph, IsKept}
-use Rattle.nif_graph.proofs.Keeping.{place_named, found_slot, placed, name_lives, node_there, get_map, length_map, header_live, footer_live, slots_live}
+use Rattle.nif_graph.proofs.Keeping.{place_named, found_by_name, found_slot, placed, name_lives, node_there, get_map, length_map, header_live, footer_live, slots_live}
 
 -- what is kept in a graph, and what contracts see of it
 abbrev pub Kept : Inside → Type 0
@@ -52,6 +52,14 @@ module _ (g : Inside) (S : GraphState) (v : state_of g ≡ S) (h : Kept g) where
   name_there k s at =
       subst (λ (T : GraphState). option_map (λ (b : Named). b.name) (slice_get T.graph.blocks k) ≡ Some s.name) v
       (ap (λ o. option_map (λ (b : Named). b.name) o) (get_map (named_in g.store) g.slots.slots k s at))
+
+  pub block_named : (k : ℕ) (s : Slot) → slice_get g.slots.slots k ≡ Some s
+      → find s.name S.graph.blocks ≡ option_map (λ (b : Named). b.block) (slice_get S.graph.blocks k)
+  block_named k s at =
+      let there : slice_get (map (named_in g.store) g.slots.slots) k ≡ Some (named_in g.store s) = get_map (named_in g.store) g.slots.slots k s at in
+      subst (λ (T : GraphState). find s.name T.graph.blocks ≡ option_map (λ (b : Named). b.block) (slice_get T.graph.blocks k)) v
+      (found_by_name (map (named_in g.store) g.slots.slots) k (named_in g.store s) h.graph.different there
+      ∙ sym (ap (λ o. option_map (λ (b : Named). b.block) o) there))
 
   pub place_is : (name : ℕ) → place_in name g.slots.slots ≡ place name S.graph.blocks
   place_is name = sym (place_named g.store name g.slots.slots) ∙ ap (λ (T : GraphState). place name T.graph.blocks) v

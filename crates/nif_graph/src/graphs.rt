@@ -138,6 +138,8 @@ impl Graph {
         requires { place < length self.now.graph.blocks }
         ensures name { option_map (λ b. b.name) (slice_get self.now.graph.blocks place) ≡ Some result }
         ensures live { is_live result self.now.graph.blocks ≡ true }
+        ensures block { find result self.now.graph.blocks
+            ≡ option_map (λ b. b.block) (slice_get self.now.graph.blocks place) }
     {
         self.slots.at(place).name
     }

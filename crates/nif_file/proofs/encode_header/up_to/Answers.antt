@@ -5,7 +5,7 @@ use Rattle.nif_schema.specs.Declaration.{field}
 use Rattle.nif_file.specs.PartsText.{up_to}
 use Rattle.nif_file.proofs.FieldPlaces.{up_to_place}
 use Rattle.nif_file.proofs.HeaderTexts.{up_to_within}
-use Rattle.nif_file.proofs.encode.up_to.Goals as goal
+use Rattle.nif_file.proofs.encode_header.up_to.Goals as goal
 
 pub overflow_add-result : goal.overflow_add-result
 overflow_add-result c =

@@ -3,7 +3,7 @@ use Rattle.std.proofs.lemmas.List.{length-map}
 use Rattle.nif_schema.specs.Declaration.{field, declaration}
 use Rattle.nif_file.specs.PartsText.{up_to}
 use Rattle.nif_file.proofs.HeaderTexts.{fields_are}
-use Rattle.nif_file.proofs.encode.header_counts.Goals as goal
+use Rattle.nif_file.proofs.encode_header.header_counts.Goals as goal
 
 pub returns-clause-front : goal.returns-clause-front
 returns-clause-front c =
