@@ -1,5 +1,5 @@
 -- The bytes of what a walk meets, and those of one node or absent member among them.
-use Rattle.std.specs.Prelude.{ℕ, zero, suc, ◌-◌, ◌<◌, ◌||◌, Bool, true, false, List, [], ◌∷◌, ◌++◌, Option, None, Some, IsSome, slice_get, unwrap_or, option_and_then}
+use Rattle.std.specs.Prelude.{ℕ, zero, suc, ◌-◌, ◌<◌, ◌||◌, true, false, List, [], ◌∷◌, ◌++◌, Option, None, Some, IsSome, slice_get, unwrap_or, option_and_then}
 use Rattle.nif_base.specs.Node.{Node, Members, Group, Row, End, Here, Absent, number, is_little, place_or_none, text, texts, retargeted, retargeted_in}
 use Rattle.nif_cells.specs.Walks.{Met, Leaf, Opens, LeftOut, count}
 use Rattle.nif_cells.specs.declared.steps.Step.{Step}

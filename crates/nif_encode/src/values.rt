@@ -10,7 +10,8 @@ use nif_base::{Sink, WriteFault};
 use nif_stream::Putter;
 use nif_value::{Store, TreeId};
 
-/// Puts the bytes that spell a tree, each target as its place. A putter that has failed answers its fault, also where there are none.
+/// Puts the bytes that spell a tree, each target as its place. A putter that has failed answers its fault, also where
+/// there are none.
 pub fn encode_value<K: Sink>(
     store: &Store,
     tree: TreeId,

@@ -1,23 +1,23 @@
 -- The graph of a file is written as the file.
-use Rattle.std.proofs.Common.{◌≡◌, ℕ, zero, suc, ◌+◌, ◌<◌, ◌≤◌, ◌⊎◌, inl, inr, Bool, true, false, ◌&&◌, ◌||◌, if◌then◌else◌, Option, Some, None, IfSome, option_and_then, List, [], ◌∷◌, map, length, slice_get, refl, sym, ◌∙◌, ap, subst, arith, true≢false}
+use Rattle.std.proofs.Common.{◌≡◌, ℕ, suc, ◌+◌, ◌<◌, Bool, true, false, ◌&&◌, ◌||◌, if◌then◌else◌, Option, Some, None, IfSome, option_and_then, List, [], ◌∷◌, map, length, slice_get, refl, sym, ◌∙◌, ap, subst, arith, true≢false}
 use Rattle.std.specs.Prelude.{codes, is_none, is_some, ◌==◌}
 use Rattle.std.specs.Option.{option_map, option_map_or, unwrap_or}
 use Rattle.std.proofs.lemmas.Bool.{eqb-true}
 use Rattle.nif_base.specs.Node as node
-use Rattle.nif_base.specs.Node.{Node, Members, text, size}
+use Rattle.nif_base.specs.Node.{Node, Members, Reference, refs, text, size}
 use Rattle.nif_base.specs.File.{Block, File}
 use Rattle.nif_base.specs.Graph.{Origin, Named}
-use Rattle.nif_schema.specs.Schema.{Schema, IsSchema, find}
+use Rattle.nif_schema.specs.Schema.{Schema, IsSchema}
 use Rattle.nif_schema.specs.Roles.{Roles}
 use Rattle.nif_layout.specs.Earlier.{Env}
-use Rattle.nif_layout.specs.Kind.{Kind, Unknown, kind_of}
 use Rattle.nif_layout.specs.Form.{number_at_item}
 use Rattle.nif_decode.specs.Scopes.{member_at}
+use Rattle.nif_graph.specs.Graph.{find, reference}
 use Rattle.nif_graph.specs.declared.places.RolePlaces.{RolePlaces}
 use Rattle.nif_graph.specs.Written.{Told, with_bits, with_items, numbers, strings, told_at, has_member, is_indexed, with_told, told_of, named_from, graph_of, numbered}
-use Rattle.nif_graph.specs.WrittenLaws.{EachMember, told_same, Below, BelowIn, BlocksBelow, written_again}
-use Rattle.nif_file.specs.Head.{member, number_of, file_context, block_context, order_in, type_names, index_word, stated_size}
-use Rattle.nif_file.specs.Checks.{types_fault, refuse_where, header_check}
+use Rattle.nif_graph.specs.WrittenLaws.{told_same, Below, BlocksBelow, below_refs, written_again}
+use Rattle.nif_file.specs.Head.{member, number_of, file_context, block_context, order_in, type_names, stated_size}
+use Rattle.nif_file.specs.Checks.{refuse_where, header_check}
 use Rattle.nif_file.specs.Files.{IsFile, IsBlock, AreBlocks, header_depth, header_line, head_of, head_in, members_of, footer_kind, block_kind}
 use Rattle.nif_file.specs.GraphOf.{types_in}
 use Rattle.nif_file.specs.HeaderParts.{IsPlaceOf}
@@ -227,3 +227,61 @@ module _ (S : Schema) (is : IsSchema S) (roles : Roles S) (F : File) (bytes : Li
       (blocks_below (length F.blocks) 0 F.blocks (sym count) blocks_are)
       (subst (λ m. Below m F.footer) (sym file.count)
       (below_shape S (file_context S (head_in S F)) 64 (footer_kind S (head_in S F)) F.footer file.footer))
+
+-- ---- the targets of its graph
+
+found_below : (n m first : ℕ) (blocks : List Block) → BlocksBelow n blocks → (o : Option Block)
+    → find m (named_from first blocks) ≡ o → (k : ℕ) (r : Reference) (t : ℕ)
+    → option_and_then (λ at. slice_get (refs at) k) (option_map (λ (b : Block). b.node) o) ≡ Some r → r.target ≡ Some t → t < n
+found_below n m first [] below o found k r t at is =
+    let none : option_and_then (λ x. slice_get (refs x) k) (option_map (λ (b : Block). b.node) (find m (named_from first []))) ≡ Some r =
+    ap (λ o. option_and_then (λ x. slice_get (refs x) k) (option_map (λ (b : Block). b.node) o)) found ∙ at in absurd cc
+found_below n m first (b ∷ blocks) below o found k r t at is =
+    by (λ o' found' at'. found_below n m (suc first) blocks below.1 o' found' k r t at' is) (m == first) refl found
+  where
+    by : ((o : Option Block) → find m (named_from (suc first) blocks) ≡ o
+        → option_and_then (λ x. slice_get (refs x) k) (option_map (λ (y : Block). y.node) o) ≡ Some r → t < n)
+        → (c : Bool) → (m == first) ≡ c → (if m == first then Some b else find m (named_from (suc first) blocks)) ≡ o → t < n
+    by later true e h =
+        let here : Some b ≡ o = sym (ap (λ c. if c then Some b else find m (named_from (suc first) blocks)) e) ∙ h in
+        below_refs n b.node below.0 k r t
+        (ap (λ o. option_and_then (λ x. slice_get (refs x) k) (option_map (λ (y : Block). y.node) o)) here ∙ at) is
+    by later false e h =
+        later o (sym (ap (λ c. if c then Some b else find m (named_from (suc first) blocks)) e) ∙ h) at
+
+pub aimed_within : (S : Schema) (F : File) (bytes : List ℕ) → IsFile S F bytes → (places : RolePlaces) (origin : Origin) (types : List (List ℕ))
+    → (from : Option ℕ) (k : ℕ) (r : Reference) (target : ℕ) → reference (graph_of places origin types F) from k ≡ Some r
+    → r.target ≡ Some target → target < length F.blocks
+aimed_within S F bytes file places origin types from k r target at is = by from at
+  where
+    blocks_at_most : (k : ℕ) (blocks : List Block) → AreBlocks S (head_in S F) k blocks → BlocksBelow (length F.blocks) blocks
+    blocks_at_most k [] are = tt
+    blocks_at_most k (b ∷ blocks) are = (
+      subst (λ m. Below m b.node) (sym file.count) (below_shape S (block_context S (head_in S F) b.kind) 64 (block_kind S (head_in S F) b.kind) b.node are.0.value),
+      blocks_at_most (k + 1) blocks are.1,
+    )
+
+    by : (from : Option ℕ) → reference (graph_of places origin types F) from k ≡ Some r → target < length F.blocks
+    by None at =
+        below_refs (length F.blocks) F.footer
+        (subst (λ m. Below m F.footer) (sym file.count) (below_shape S (file_context S (head_in S F)) 64 (footer_kind S (head_in S F)) F.footer file.footer))
+        k r target at is
+    by (Some name) at =
+        found_below (length F.blocks) name 0 F.blocks (blocks_at_most 0 F.blocks file.blocks) (find name (named_from 0 F.blocks)) refl k r target at is
+
+-- a file is indexed where its header has an index of types
+pub indexed_alike : (S : Schema) (F : File) (bytes : List ℕ) → IsFile S F bytes → (places : RolePlaces) → ArePlaces S places
+    → is_indexed places F.header ≡ is_some (member (codes "Block Type Index") (head_in S F))
+indexed_alike S F bytes file places at =
+    ap (is_indexed places) file.header.group ∙ by places.index refl
+    ∙ ap (λ h. is_some (member (codes "Block Type Index") (head_of S (members_of h)))) (sym file.header.group)
+  where
+    by : (o : Option ℕ) → places.index ≡ o → option_map_or (λ k. has_member k file.header.members) o false
+        ≡ is_some (member (codes "Block Type Index") (head_of S file.header.members))
+    by None e =
+        sym (ap is_some (place_member S file.header.members (codes "Block Type Index") places.index at.index
+        ∙ ap (option_and_then (member_at file.header.members)) e))
+    by (Some k) e =
+        has_is k file.header.members
+        ∙ sym (ap is_some (place_member S file.header.members (codes "Block Type Index") places.index at.index
+        ∙ ap (option_and_then (member_at file.header.members)) e))

@@ -1,27 +1,23 @@
 -- How many items the lists of a header have: as many as the field says that is their length.
-use Rattle.std.proofs.Common.{◌≡◌, ℕ, zero, suc, ◌+◌, ◌^◌, ◌<◌, ◌⊎◌, inl, inr, Bool, true, false, ◌&&◌, ◌||◌, if◌then◌else◌, Option, Some, None, option_and_then, List, [], ◌∷◌, ◌++◌, map, filter, slice_get, refl, sym, ◌∙◌, ap, subst, true≢false, append_assoc, append-nil}
-use Rattle.std.specs.Prelude.{codes, bytes_eq, is_none}
+use Rattle.std.proofs.Common.{◌≡◌, ℕ, zero, suc, ◌⊎◌, inl, inr, Bool, true, false, ◌||◌, if◌then◌else◌, Option, Some, None, option_and_then, List, [], ◌∷◌, ◌++◌, slice_get, refl, sym, ◌∙◌, ap, subst, true≢false, append_assoc, append-nil}
+use Rattle.std.specs.Prelude.{bytes_eq}
 use Rattle.std.specs.List.{list_any}
 use Rattle.std.specs.Option.{option_map, option_map_or, unwrap_or}
-use Rattle.std.proofs.lemmas.Option.{slice_get_within}
 use Rattle.std.proofs.lemmas.Slice.Eq.{bytes_eq-Decides}
 use lib.Pointwise.{pointwise_decides, bytes_decides}
-use Rattle.nif_base.specs.Node as node
-use Rattle.nif_base.specs.Node.{Node, Members, End, Here, Absent}
+use Rattle.nif_base.specs.Node.{Node, Members}
 use Rattle.nif_schema.specs.Declaration.{Name, Field, Formula, Read, Bad, Declaration}
 use Rattle.nif_schema.specs.Expression.{Number, Arg, Path, Not, Two}
-use Rattle.nif_schema.specs.Schema.{Schema, IsSchema, find, fields_of, parent, line}
+use Rattle.nif_schema.specs.Schema.{Schema, IsSchema, find, line}
 use Rattle.nif_schema.specs.Basic.{listed_leaf}
 use Rattle.nif_schema.specs.Uses.{named, what_at, is_own_template, is_struct}
 use Rattle.nif_schema.specs.Uses as uses
 use Rattle.nif_schema.specs.Paths as paths
 use Rattle.nif_schema.specs.Paths.{path_reason, paths_of, fields_named, is_header_path, type_of}
-use Rattle.nif_schema.specs.Reasons.{first_reason, fields_reason, field_reason, formula_reason, width_reason, width_where, reason_where, is_bad_bound, is_no_block, is_bad_exact, kind_reason, template_reason, line_above, own_reason}
-use Rattle.nif_schema.specs.Roles.{Roles, header_fields, is_named, is_bare_name, is_of_basic, has_length}
-use Rattle.nif_schema.specs.declared.decls.Leaf.{Leaf}
+use Rattle.nif_schema.specs.Reasons.{fields_reason, field_reason, formula_reason, width_reason, width_where, reason_where, is_bad_bound, is_no_block, is_bad_exact, kind_reason, template_reason, line_above}
+use Rattle.nif_schema.specs.Roles.{Roles, is_bare_name, is_of_basic}
 use Rattle.nif_schema.specs.declared.decls.Leaf.TheVariants as leaf
-use Rattle.nif_schema.specs.declared.decls.What.{What}
-use Rattle.nif_schema.specs.declared.decls.What.TheVariants.{Basic, Stored, Struct, Block}
+use Rattle.nif_schema.specs.declared.decls.What.TheVariants.{Basic, Struct}
 use Rattle.nif_schema.specs.declared.faults.Closed.{Closed}
 use Rattle.nif_schema.specs.declared.faults.Closed.TheVariants as closed
 use Rattle.nif_layout.specs.Context.{Context}
@@ -30,7 +26,7 @@ use Rattle.nif_layout.specs.Members.{Member, Check, Fields}
 use Rattle.nif_layout.specs.OpenTypeLaws.{no_first, no_reason_at, own_facts}
 use Rattle.nif_layout.specs.PathValue.{is_signed, leaf_of, is_signed_leaf, number_in, found, follow, path_value}
 use Rattle.nif_layout.specs.PathValue as path
-use Rattle.nif_layout.specs.Present.{formula_value, present}
+use Rattle.nif_layout.specs.Present.{formula_value}
 use Rattle.nif_layout.specs.Form.{form_of}
 use Rattle.nif_layout.specs.Shape.{FormShape}
 use Rattle.nif_decode.specs.Scopes.{member_at}
@@ -39,7 +35,7 @@ use Rattle.nif_file.specs.Checks.{header_check}
 use Rattle.nif_file.specs.Files.{header_line, head_of, IsHeaderLine}
 use Rattle.nif_file.specs.HeaderParts.{IsPlaceOf}
 use Rattle.nif_file.specs.PlaceLaws.{none_named, other_name, neither}
-use Rattle.nif_file.specs.RoleLaws.{Among, Held, held, basic_by, own_leaf, found_declared, of_basic, no_parent, root_within, header_is, header_line_is}
+use Rattle.nif_file.specs.RoleLaws.{Among, held, basic_by, own_leaf, found_declared, of_basic, no_parent, header_is, header_line_is}
 
 -- ---- a field with what stands before and behind it
 

@@ -1,5 +1,5 @@
 -- What is put of a header, member by member.
-use Rattle.std.proofs.Common.{◌≡◌, ℕ, zero, suc, ◌+◌, ◌-◌, ◌<◌, ◌≤◌, Bool, true, false, ◌&&◌, ◌||◌, ◌==◌, if◌then◌else◌, Option, Some, None, IfSome, List, [], ◌∷◌, ◌++◌, map, length, refl, sym, ◌∙◌, ap, ap₂, subst, arith, append-nil, append_assoc}
+use Rattle.std.proofs.Common.{◌≡◌, ℕ, zero, suc, ◌+◌, ◌-◌, ◌<◌, ◌≤◌, Bool, true, false, ◌&&◌, ◌==◌, if◌then◌else◌, Option, Some, None, IfSome, List, [], ◌∷◌, ◌++◌, map, length, refl, sym, ◌∙◌, ap, subst, arith, append-nil, append_assoc}
 use Rattle.std.specs.Prelude.{codes, slice_get, unwrap_or}
 use Rattle.std.specs.List.{flat_map}
 use Rattle.std.specs.Option.{option_map, option_map_or}
@@ -7,7 +7,6 @@ use Rattle.nif_base.specs.declared.orders.Order.{Order}
 use Rattle.nif_base.specs.declared.orders.Order.TheVariants.{Little}
 use Rattle.nif_cells.specs.Building.{bytes_of}
 use Rattle.nif_file.specs.LengthLaws.{length_text}
-use Rattle.nif_base.specs.Node as node
 use Rattle.nif_base.specs.Node.{Node, Members, Num, Line, Ref, Text, Bytes, Group, Row, End, Here, Absent, number, is_little, text, texts, size, retargeted, retargeted_in}
 use Rattle.nif_base.specs.File.{Block}
 use Rattle.nif_base.specs.Graph.{Named, Graph}
@@ -16,9 +15,6 @@ use Rattle.nif_cells.specs.declared.steps.Step.{Step}
 use Rattle.nif_cells.specs.declared.steps.Step.TheVariants as step
 use Rattle.nif_schema.specs.Declaration.{Field}
 use Rattle.nif_schema.specs.Schema.{Schema}
-use Rattle.nif_stream.specs.declared.putters.Putter.{Putter}
-use Rattle.nif_stream.specs.Putting.{IsSound, Puts, Fails}
-use Rattle.nif_stream.specs.PutterLaws.{puts_more, fails_more}
 use Rattle.nif_value.specs.Walking.{Walking, step_of, next_step, walked}
 use Rattle.nif_encode.specs.declared.steps.Targets.{Targets}
 use Rattle.nif_encode.specs.Texts as put
@@ -26,14 +22,13 @@ use Rattle.nif_encode.specs.Texts.{placed, spelled, one_text, behind_one, behind
 use Rattle.nif_encode.specs.TextLaws.{member_ahead, step_ahead, many_more}
 use Rattle.nif_graph.specs.Graph.{find, place, kind_of}
 use Rattle.nif_graph.specs.State.{GraphState}
-use Rattle.nif_graph.specs.Written.{Told, untold, with_bits, with_items, numbers, strings, told_at, by_place, is_indexed, with_told, told_of, rest_of, numbered}
+use Rattle.nif_graph.specs.Written.{Told, untold, with_bits, with_items, numbers, strings, told_at, by_place, is_indexed, with_told, told_of, rest_of}
 use Rattle.nif_graph.specs.WrittenLaws.{told_again, indexed_told}
 use Rattle.nif_graph.specs.declared.places.RolePlaces.{RolePlaces}
 use Rattle.nif_file.specs.declared.encode_header.Telling.{Telling}
 use Rattle.nif_file.specs.declared.encode_header.Telling.TheVariants as telling
 use Rattle.nif_file.specs.Files.{sized_string, name_of, name_where, has_zero_word, zero_where}
 use Rattle.nif_file.specs.PartsText.{up_to, header_part, text_at, texts_from, members_text, block_part, telling_at, telling_node, is_absent, telling_text, Suits, SuitsAt, AllSuit, WalksHeader, written_header}
-use Rattle.nif_file.proofs.PartsPuts.{puts_none}
 
 -- ---- a block of a graph by its place
 

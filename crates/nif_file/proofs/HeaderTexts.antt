@@ -3,10 +3,10 @@
 use Rattle.std.proofs.Common.{◌≡◌, ◌≤◌, ℕ, zero, suc, ◌+◌, ◌-◌, ◌==◌, ◌||◌, ◌&&◌, Bool, true, false, if◌then◌else◌, not, Option, Some, None, List, [], ◌∷◌, ◌++◌, length, slice_get, refl, sym, ◌∙◌, ap, subst, arith, append_assoc, true≢false}
 use Rattle.std.specs.Prelude.{codes, bytes_eq, filter}
 use Rattle.std.specs.List.{list_any}
-use Rattle.std.specs.Option.{option_map, option_map_or, IsSomeAnd}
+use Rattle.std.specs.Option.{option_map, option_map_or}
 use Rattle.nif_base.specs.declared.orders.Order.{Order}
 use Rattle.nif_base.specs.declared.orders.Order.TheVariants.{Little, Big}
-use Rattle.nif_base.specs.Node.{Node, Members, Num, Line, Ref, Text, Bytes, Group, Row, End, Here, Absent, text, texts}
+use Rattle.nif_base.specs.Node.{Node, Members, Group, End, Here, Absent, text, texts}
 use Rattle.nif_cells.specs.Walks.{count}
 use Rattle.nif_schema.specs.Declaration.{Name, Field, Declaration}
 use Rattle.nif_schema.specs.Schema.{Schema, find}

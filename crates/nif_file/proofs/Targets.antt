@@ -2,7 +2,6 @@
 use Rattle.std.proofs.Common.{◌≡◌, ℕ, zero, suc, ◌+◌, ◌<◌, ◌≤◌, Bool, true, false, Option, Some, None, IfSome, List, [], ◌∷◌, sym, subst, arith}
 use Rattle.nif_base.specs.Node as node
 use Rattle.nif_base.specs.Node.{Node, Members, End, Here, Absent}
-use Rattle.nif_base.specs.File.{Block}
 use Rattle.nif_schema.specs.Declaration.{Field}
 use Rattle.nif_schema.specs.Schema.{Schema}
 use Rattle.nif_layout.specs.Context.{Context}
@@ -13,9 +12,8 @@ use Rattle.nif_layout.specs.Form.{Form, One, Run, Row, form_of}
 use Rattle.nif_layout.specs.Fault.{Fault}
 use Rattle.nif_layout.specs.Members.{Member, Check, no_check, Fields, Items}
 use Rattle.nif_layout.specs.Shape.{Shape, IsForm}
-use Rattle.nif_graph.specs.WrittenLaws.{Below, BelowIn, BlocksBelow}
-use Rattle.nif_file.specs.Head.{header_context, block_context}
-use Rattle.nif_file.specs.Files.{AreBlocks}
+use Rattle.nif_graph.specs.WrittenLaws.{Below, BelowIn}
+use Rattle.nif_file.specs.Head.{header_context}
 
 below_fields : {Why : Type 0} (n : ℕ) (here : Env → Field → Bool) (V : Env → Field → Node → Type 0) (check : Check Why)
     → ((E : Env) (f : Field) (at : Node) → V E f at → Below n at) → (fields : List Field) (E : Env) (members : Members)

@@ -1,19 +1,18 @@
 -- The header of a file says of its blocks what the graph of the file tells.
-use Rattle.std.proofs.Common.{◌≡◌, ℕ, zero, suc, ◌+◌, ◌^◌, ◌<◌, ◌≤◌, ◌⊎◌, inl, inr, Bool, true, false, ◌&&◌, ◌||◌, if◌then◌else◌, Option, Some, None, IfSome, option_and_then, List, [], ◌∷◌, ◌++◌, map, length, slice_get, refl, sym, ◌∙◌, ap, ap₂, subst, arith, true≢false}
+use Rattle.std.proofs.Common.{◌≡◌, ℕ, zero, suc, ◌+◌, inl, inr, Bool, true, false, ◌&&◌, ◌||◌, if◌then◌else◌, Option, Some, None, List, [], ◌∷◌, ◌++◌, map, length, slice_get, refl, sym, ◌∙◌, ap, ap₂, subst, arith, true≢false}
 use Rattle.std.specs.Prelude.{codes, bytes_eq, is_none, is_some, ◌==◌}
 use Rattle.std.specs.List.{list_any}
 use Rattle.std.specs.Option.{option_map, option_map_or, unwrap_or}
 use Rattle.std.proofs.lemmas.Bool.{eqb-true}
 use Rattle.nif_base.specs.Node as node
 use Rattle.nif_base.specs.Node.{Node, Members, End, Here, Absent, text, size}
-use Rattle.nif_base.specs.File.{Block, File}
-use Rattle.nif_base.specs.Graph.{Origin, Named}
+use Rattle.nif_base.specs.File.{Block}
 use Rattle.nif_schema.specs.Declaration.{Name, Field, Formula}
 use Rattle.nif_schema.specs.Schema.{Schema, IsSchema}
 use Rattle.nif_schema.specs.Basic.{listed_leaf}
 use Rattle.nif_schema.specs.Paths.{is_header_path}
 use Rattle.nif_schema.specs.Uses.{is_own_template}
-use Rattle.nif_schema.specs.Roles.{Roles, header_fields, is_plain, has_no_bounds, is_named, is_bare_name, is_of_basic, has_length, are_sized, sized_fields, are_strings, are_numbers}
+use Rattle.nif_schema.specs.Roles.{Roles, header_fields, is_plain, has_no_bounds, is_named, is_bare_name, is_of_basic, sized_fields, are_numbers}
 use Rattle.nif_schema.specs.declared.decls.Leaf.TheVariants as leaf
 use Rattle.nif_layout.specs.Context.{Context}
 use Rattle.nif_layout.specs.Earlier.{Env, behind, last_present, has_name}
@@ -27,16 +26,13 @@ use Rattle.nif_layout.specs.Members.{Member, no_check, Fields, Items}
 use Rattle.nif_layout.specs.Shape.{Shape, FormShape, IsForm}
 use Rattle.nif_decode.specs.Scopes.{member_at}
 use Rattle.nif_graph.specs.declared.places.RolePlaces.{RolePlaces}
-use Rattle.nif_graph.specs.Written.{Told, with_bits, with_items, numbers, strings, told_at, has_member, is_indexed, with_told, told_of, named_from, graph_of}
-use Rattle.nif_graph.specs.WrittenLaws.{EachMember, told_same}
-use Rattle.nif_file.specs.Head.{header_context, member, number_of, order_in, string_in, strings_in, row_in, type_names, index_word, stated_size}
-use Rattle.nif_file.specs.Checks.{types_fault, refuse_where}
-use Rattle.nif_file.specs.Files.{IsFile, IsBlock, AreBlocks, header_line, head_of, head_in, members_of, IsHeaderLine}
-use Rattle.nif_file.specs.GraphOf.{origin_in, types_in}
+use Rattle.nif_graph.specs.Written.{with_bits, with_items, numbers, strings, has_member}
+use Rattle.nif_graph.specs.WrittenLaws.{EachMember}
+use Rattle.nif_file.specs.Head.{header_context, member, number_of, string_in, strings_in, row_in, type_names}
+use Rattle.nif_file.specs.Files.{IsBlock, AreBlocks, header_line, head_of, IsHeaderLine}
 use Rattle.nif_file.specs.HeaderParts.{IsPlaceOf}
 use Rattle.nif_file.specs.Heads.{ArePlaces}
-use Rattle.nif_file.specs.HeaderShapes.{AreTwo, IsArray, is_array, array_form, has_basic, string_items, number_items, two_fields, single_form, uint_leaf, char_leaf, index_leaf, uint_other, char_other, index_other, flat_is, strings_are, numbers_are, types_rule, blocks_rule, sized_rule, types_shape, index_shape, sizes_shape}
-use Rattle.nif_file.specs.LengthLaws.{length_text}
+use Rattle.nif_file.specs.HeaderShapes.{AreTwo, is_array, array_form, has_basic, string_items, number_items, two_fields, single_form, uint_leaf, char_leaf, index_leaf, uint_other, char_other, index_other, flat_is, strings_are, numbers_are, types_rule, blocks_rule, sized_rule, types_shape, index_shape, sizes_shape}
 use Rattle.nif_file.specs.PartsText.{Suits, SuitsAt, telling_at}
 use Rattle.nif_file.specs.PlaceLaws.{place_member}
 use Rattle.nif_file.specs.declared.encode_header.Telling.TheVariants as telling

@@ -1,14 +1,13 @@
 -- What is written of a whole graph is its file.
-use Rattle.std.proofs.Common.{◌≡◌, ℕ, zero, suc, ◌+◌, ◌<◌, ◌⊎◌, Bool, true, false, Option, Some, None, IsSome, List, [], ◌∷◌, ◌++◌, map, length, refl, sym, ◌∙◌, ap, subst, arith}
-use Rattle.std.specs.Prelude.{codes, slice_get, unwrap_or, ◌==◌, ◌&&◌, if◌then◌else◌}
+use Rattle.std.proofs.Common.{◌≡◌, ℕ, zero, suc, ◌+◌, ◌<◌, Bool, true, false, Option, Some, None, IsSome, List, [], ◌∷◌, ◌++◌, map, length, refl, sym, ◌∙◌, ap, subst, arith}
+use Rattle.std.specs.Prelude.{slice_get, unwrap_or, ◌==◌, ◌&&◌, if◌then◌else◌}
 use Rattle.std.specs.List.{flat_map}
-use Rattle.std.specs.Option.{option_map, option_map_or}
-use Rattle.nif_base.specs.declared.orders.Order.{Order}
+use Rattle.std.specs.Option.{option_map_or}
 use Rattle.nif_base.specs.Node.{Node, Members, Num, Line, Ref, Text, Bytes, Group, Row, End, Here, Absent, text, retargeted, retargeted_in}
 use Rattle.nif_base.specs.File.{Block, File}
-use Rattle.nif_base.specs.Graph.{Named, Graph, Origin}
+use Rattle.nif_base.specs.Graph.{Named, Origin}
 use Rattle.nif_cells.specs.Walks.{count}
-use Rattle.nif_schema.specs.Schema.{Schema, IsSchema, find}
+use Rattle.nif_schema.specs.Schema.{Schema, IsSchema}
 use Rattle.nif_schema.specs.Roles.{Roles, header_fields}
 use Rattle.nif_layout.specs.Earlier.{Env}
 use Rattle.nif_decode.specs.Scopes.{member_at}
@@ -18,14 +17,14 @@ use Rattle.nif_graph.specs.Written.{Told, untold, with_bits, with_items, numbers
 use Rattle.nif_graph.specs.WrittenLaws.{told_again, indexed_told}
 use Rattle.nif_graph.specs.declared.places.RolePlaces.{RolePlaces}
 use Rattle.nif_file.specs.Head.{order_in, version_in, index_word}
-use Rattle.nif_file.specs.Files.{IsFile, IsHeader, IsBlock, AreBlocks, header_text, block_text, blocks_text, text_of, members_of, head_of, head_in, header_line, name_of, name_where, has_zero_word, zero_where}
-use Rattle.nif_file.specs.GraphOf.{IsWhole, origin_in}
-use Rattle.nif_file.specs.PartsText.{is_number, is_row, Suits, SuitsAt, AllSuit, telling_at, IsKeptHeader, CanPut, header_part, block_part, graph_text, written_header}
+use Rattle.nif_file.specs.Files.{IsHeader, AreBlocks, header_text, block_text, blocks_text, text_of, members_of, head_of, head_in, header_line, name_of, name_where, has_zero_word, zero_where}
+use Rattle.nif_file.specs.GraphOf.{IsWhole}
+use Rattle.nif_file.specs.PartsText.{is_number, is_row, Suits, SuitsAt, AllSuit, telling_at, IsKeptHeader, CanPut, header_part, block_part, graph_text}
 use Rattle.nif_file.specs.RoleLaws.{header_line_is}
 use Rattle.nif_file.specs.declared.encode_header.Telling.{Telling}
 use Rattle.nif_file.specs.declared.encode_header.Telling.TheVariants as telling
 use Rattle.nif_file.proofs.HeaderTexts.{header_parts, header_matched, matched_count}
-use Rattle.nif_file.proofs.Telling.{blocks_at, told_suits}
+use Rattle.nif_file.proofs.Telling.{told_suits}
 use Rattle.nif_file.proofs.ValueSteps.{block_open}
 
 -- ---- the header

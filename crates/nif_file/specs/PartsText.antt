@@ -1,12 +1,12 @@
 -- The bytes of what is written of a graph, one part behind another.
-use Rattle.std.specs.Prelude.{ℕ, zero, suc, ◌≡◌, ◌+◌, ◌-◌, ◌<◌, ◌≤◌, ◌==◌, ◌||◌, ◌&&◌, Bool, true, false, codes, List, [], ◌∷◌, ◌++◌, length, map, None, Some, IsSome, slice_get, unwrap_or, if◌then◌else◌}
+use Rattle.std.specs.Prelude.{ℕ, zero, suc, ◌≡◌, ◌-◌, ◌<◌, ◌==◌, ◌||◌, ◌&&◌, Bool, true, false, codes, List, [], ◌∷◌, ◌++◌, length, None, Some, IsSome, slice_get, unwrap_or, if◌then◌else◌}
 use Rattle.std.specs.declared.option.Option.{Option}
 use Rattle.std.specs.Option.{option_map_or}
 use Rattle.std.specs.List.{flat_map}
 use Rattle.nif_base.specs.declared.orders.Order.{Order}
 use Rattle.nif_base.specs.declared.orders.Order.TheVariants.{Little}
-use Rattle.nif_base.specs.Node.{Node, Members, Num, Bytes, Group, Row, End, Here, Absent, number, is_little, text, size, retargeted}
-use Rattle.nif_base.specs.Graph.{Origin, Named, Graph}
+use Rattle.nif_base.specs.Node.{Node, Members, Num, Group, Row, End, Here, Absent, number, is_little, text, size, retargeted}
+use Rattle.nif_base.specs.Graph.{Named, Graph}
 use Rattle.nif_cells.specs.Walks.{Met, count, walk}
 use Rattle.nif_cells.specs.declared.steps.Step.{Step}
 use Rattle.nif_cells.specs.declared.steps.Step.TheVariants as step
@@ -18,7 +18,7 @@ use Rattle.nif_value.specs.Walking.{walked}
 use Rattle.nif_encode.specs.Texts.{behind_many}
 use Rattle.nif_graph.specs.Graph.{place}
 use Rattle.nif_graph.specs.State.{GraphState, node_at}
-use Rattle.nif_graph.specs.Written.{Told, with_bits, with_items, numbers, strings, is_indexed, told_of, with_told, rest_of, numbered}
+use Rattle.nif_graph.specs.Written.{Told, with_bits, with_items, numbers, strings, is_indexed, rest_of, numbered}
 use Rattle.nif_graph.specs.declared.places.RolePlaces.{RolePlaces}
 use Rattle.nif_file.specs.declared.encode_header.Telling.{Telling}
 use Rattle.nif_file.specs.declared.encode_header.Telling.TheVariants as telling

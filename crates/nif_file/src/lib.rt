@@ -1,9 +1,9 @@
 //! Files: which bytes are a file by a schema, and what it says. It stands on the crates of values below it
 //! (`nif_layout`, `nif_value`, `nif_decode`, `nif_encode`, `nif_graph`), on `nif_schema` and on `nif_stream`. It
 //! promises, as a law over the definitions, that bytes spell one file or have one first fault; that a header is read to
-//! the tree that it spells, or its first fault is answered; and that what is written of the parts of a file is its
-//! bytes, or a prefix of them where a write failed. The blocks and the footer behind a header are read above, in
-//! `nif_file_reader`.
+//! the tree that it spells, or its first fault is answered; and that what is written of a graph is the bytes of the file
+//! that it stands for, or a prefix of them where a write failed. The blocks and the footer behind a header are read
+//! above, in `nif_file_reader`.
 #![tactic(auto)]
 
 pub mod encode;

@@ -12,3 +12,4 @@ pub mod ValueLaws
 pub mod Reading
 pub mod Rest
 pub mod Whole
+pub mod Graphs

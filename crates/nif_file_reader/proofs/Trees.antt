@@ -8,7 +8,7 @@ use Rattle.nif_region.specs.Contents.{find, AreApart}
 use Rattle.nif_region.specs.RunLaws.{find-append}
 use Rattle.nif_value.specs.Trees.{Trees}
 use Rattle.nif_graph.specs.declared.parts.BlockPart.{BlockPart}
-use Rattle.nif_file.specs.PartsSay.{SaysBlock, SaysBlocks}
+use Rattle.nif_file_reader.specs.PartsSay.{SaysBlock, SaysBlocks}
 use Rattle.nif_file_reader.specs.Known.{block_trees}
 
 module _ {A : Type 0} where
@@ -16,7 +16,7 @@ module _ {A : Type 0} where
   pub find_kept : (trees more : List (ℕ × A)) (key : ℕ) (value : A) → find trees key ≡ Some value → find (trees ++ more) key ≡ Some value
   find_kept trees more key value e = find-append trees more key ∙ ap (λ o. option_or o (find more key)) e
 
-  one_same : (key : ℕ) (value : A) → find ((key, value) ∷ []) key ≡ Some value
+  pub one_same : (key : ℕ) (value : A) → find ((key, value) ∷ []) key ≡ Some value
   one_same key value = elim (eqb_tells key key) [ inl e ↦ rw e.0 refl | inr e ↦ absurd (e.1 refl) ]
 
   one_other : (key other : ℕ) (value : A) → other ≢ key → find ((key, value) ∷ []) other ≡ None

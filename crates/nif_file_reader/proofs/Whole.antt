@@ -1,6 +1,7 @@
 -- A whole file: its header, and all that stands behind it.
 use Rattle.std.proofs.Common.{◌≡◌, ℕ, ◌+◌, ◌≤◌, ◌⊎◌, inr, Option, Some, None, List, [], ◌∷◌, ◌++◌, length, refl, sym, ◌∙◌, ap, subst, subst₂, arith, append-nil, zero-add}
-use Rattle.std.specs.Prelude.{IfSome}
+use Rattle.std.specs.Prelude.{IfSome, codes, is_some, false, if◌then◌else◌}
+use Rattle.std.specs.Option.{option_map}
 use Rattle.nif_base.specs.Limits.{most_nodes}
 use Rattle.nif_base.specs.Node as node
 use Rattle.nif_base.specs.Node.{Node, Members, text, nodes, nodes_in}
@@ -16,6 +17,7 @@ use Rattle.nif_stream.specs.TakerLaws.{takes_joined}
 use Rattle.nif_layout.specs.Context.{Context}
 use Rattle.nif_layout.specs.Earlier.{Env}
 use Rattle.nif_layout.specs.Fault.{Point}
+use Rattle.nif_layout.specs.Form.{number_at_item}
 use Rattle.nif_decode.specs.Answers.{Went}
 use Rattle.nif_value.specs.Trees.{Trees}
 use Rattle.nif_value.specs.declared.stores.TreeId.{TreeId}
@@ -24,22 +26,22 @@ use Rattle.nif_graph.specs.declared.parts.GraphParts.{GraphParts}
 use Rattle.nif_file.specs.declared.faults.FileFault.{FileFault}
 use Rattle.nif_file.specs.declared.faults.FileFault.TheVariants as file
 use Rattle.nif_file.specs.declared.header.Header.{Header}
-use Rattle.nif_lists.specs.Lists.{Listed, AreListsOf}
+use Rattle.nif_lists.specs.Lists.{Listed, AreListsOf, entry_of}
 use Rattle.nif_file.specs.Stops.{Stop}
-use Rattle.nif_file.specs.Head.{file_context, order_in}
+use Rattle.nif_file.specs.Head.{file_context, member, order_in}
 use Rattle.nif_file.specs.Checks.{types_fault}
 use Rattle.nif_file.specs.Files.{IsFile, IsHeader, IsHeaderLine, head_of, header_text, blocks_text, text_of, size_of}
 use Rattle.nif_file.specs.FileFails.{HeaderReads, HeaderFails, RestFails, BodyFails, start_of}
 use Rattle.nif_graph.specs.declared.places.RolePlaces.{RolePlaces}
 use Rattle.nif_file.specs.Heads.{ArePlaces}
 use Rattle.nif_file.specs.HeaderReading.{HasHeader, HasNoHeader, StopsThere}
-use Rattle.nif_file.specs.PartsSay.{SaysBlocks, SaysContext, SaysFile}
+use Rattle.nif_file_reader.specs.PartsSay.{SaysBlocks, SaysContext, SaysFile}
 use Rattle.nif_file.specs.LengthLaws.{size_is_length}
 use Rattle.nif_decode.specs.WentLaws.{went_whole}
 use Rattle.nif_file.specs.FaultLaws.{header_stops_file}
 use Rattle.nif_file_reader.specs.Halting.{StopsHere, Halts}
 use Rattle.nif_file_reader.specs.Known.{Knows, HasRest, block_trees}
-use Rattle.nif_file_reader.specs.Answers.{HasFault, HasFile, HasNoFile, HoldsFile}
+use Rattle.nif_file_reader.specs.Answers.{HasFault, HasParts, HasNoFile, HoldsFile}
 use Rattle.nif_file_reader.proofs.Halting.{halts_behind}
 use Rattle.nif_file_reader.proofs.Rest.{said_blocks}
 use Rattle.nif_file_reader.proofs.Trees.{find_kept}
@@ -153,9 +155,11 @@ module _ {T : Type 0} (left : T → Option (List ℕ)) (still : T → T → Type
       one_tree e none = e ∙ ap (λ trees. trees ++ (header.tree.run.key, node.Group h.members) ∷ []) none
 
       -- the file was read
-      pub has_file : (result : GraphParts) → before.trees ≡ [] → result.store ≡ after → after.building ≡ None → result.header ≡ header.tree → result.places ≡ header.places → result.context ≡ header.context → result.blocks ≡ parts
-          → result.footer ≡ footer → result.nodes ≡ now → result.bytes ≡ place_of new → HasFile S (left_of left old) (left (source_of new)) result
-      has_file result none store building head places context blocks foot count bytes = record { file = it; says = says; is = is_file; told = told; end = at_end (bytes_of new.held) (left (source_of new)) r.end; holds = holds }
+      pub has_parts : (result : GraphParts) → before.trees ≡ [] → result.store ≡ after → after.building ≡ None → result.header ≡ header.tree → result.places ≡ header.places → result.context ≡ header.context → result.blocks ≡ parts
+          → result.footer ≡ footer → result.nodes ≡ now → result.bytes ≡ place_of new
+          → result.strings ≡ header.bounds.strings → result.indexed ≡ is_some lists.index → result.types.items ≡ (if is_some lists.index then lists.names else [])
+          → HasParts S (left_of left old) (left (source_of new)) result
+      has_parts result none store building head places context blocks foot count bytes strings indexed types = record { file = it; says = says; is = is_file; told = told; end = at_end (bytes_of new.held) (left (source_of new)) r.end; holds = holds }
         where
           found_header : find after.trees header.tree.run.key ≡ Some (node.Group h.members)
           found_header = ap (λ trees. find trees header.tree.run.key) r.trees ∙ find_kept between.trees (block_trees parts r.blocks ++ (footer.run.key, r.footer) ∷ []) header.tree.run.key (node.Group h.members) h.found
@@ -175,6 +179,16 @@ module _ {T : Type 0} (left : T → Option (List ℕ)) (still : T → T → Type
               let l : size_of S it ≡ length (text_of S it) = size_is_length S it (text_of S it) is_file in
               omega (arith, taken.place, first, bytes, l)
 
+          -- there is an index where the header has one
+          index_there : is_some lists.index ≡ is_some (member (codes "Block Type Index") E)
+          index_there = by (member (codes "Block Type Index") E) lists.index (k.said_lists.index 0)
+            where
+              by : (o : Option Node) (i : Option (List ℕ)) → option_map (number_at_item false 0) o ≡ entry_of i 0 → is_some i ≡ is_some o
+              by None None e = refl
+              by None (Some x) e = absurd (cc)
+              by (Some n) None e = absurd (cc)
+              by (Some n) (Some x) e = refl
+
           says : SaysFile S result it
           says = record {
             header = ap (λ (s : Trees). find s.trees result.header.run.key) store ∙ ap (λ (t : TreeId). find after.trees t.run.key) head ∙ found_header;
@@ -184,6 +198,10 @@ module _ {T : Type 0} (left : T → Option (List ℕ)) (still : T → T → Type
             places = subst (λ (p : RolePlaces). ArePlaces S p) (sym places) h.places;
             nodes = count ∙ counted_all;
             bytes = sized;
+            strings = strings ∙ ap (λ (c : Context). c.strings) h.context;
+            indexed = indexed ∙ index_there;
+            types = types ∙ ap (λ b. if b then lists.names else []) index_there
+                ∙ ap (λ l. if is_some (member (codes "Block Type Index") E) then l else []) k.said_lists.names;
           }
 
           all_trees : after.trees ≡ (header.tree.run.key, node.Group h.members) ∷ block_trees parts r.blocks ++ (footer.run.key, r.footer) ∷ []

@@ -20,7 +20,7 @@ use Rattle.nif_file.specs.declared.header.Header.{Header}
 use Rattle.nif_file.specs.Head.{file_context, index_word, order_in}
 use Rattle.nif_file.specs.Files.{IsHeader, IsBlock, IsBlockType, IsIndexed, IsValue, IsFooter, AreBlocks, block_text, blocks_text, head_of, name_of, name_where}
 use Rattle.nif_file.specs.Heads.{ArePlaces, context_of}
-use Rattle.nif_file.specs.PartsSay.{SaysBlocks}
+use Rattle.nif_file_reader.specs.PartsSay.{SaysBlocks}
 
 -- The members of the header are these, and what is kept of them says what they say.
 pub record Knows (S : Schema) (members : Members) (header : Header) (lists : Listed)

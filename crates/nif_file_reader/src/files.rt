@@ -2,26 +2,30 @@
 ghost use Rattle.std.specs.Prelude.{◌≡◌, ◌≤◌, ℕ, [], None, IfOk, IfErr, OnOk};
 ghost use Rattle.nif_base.specs.Outside.{IsAtEnd};
 ghost use Rattle.nif_region.specs.Contents.{AreApart};
+ghost use Rattle.nif_base.specs.File.{File};
 ghost use Rattle.nif_base.specs.Node.{Members};
 ghost use Rattle.nif_base.specs.Limits.{most_nodes, most_depth};
 ghost use Rattle.nif_layout.specs.Fails.{Fails, Lifted};
 ghost use Rattle.nif_stream.specs.Taking.{IsSound, Takes, left_of, place_of};
 ghost use Rattle.nif_decode.specs.Answers.{IsReadyTaker, Went};
+ghost use Rattle.nif_file.specs.GraphOf.{IsGraphOf};
+ghost use Rattle.nif_graph.specs.Written.{numbered};
 ghost use Rattle.nif_file.specs.Head.{file_context};
 ghost use Rattle.nif_file.specs.Stops.{of_value};
 ghost use Rattle.nif_file.specs.Files.{footer_kind, head_of};
 ghost use Rattle.nif_file.specs.FileFails.{BodyFails, IsTrailing};
 ghost use Rattle.nif_file_reader.specs.Halting.{Halts};
 ghost use Rattle.nif_file_reader.specs.Known.{HasRest, Knows, ReadsFooter};
-ghost use Rattle.nif_file_reader.specs.Answers.{GetsFile, ReadsFile};
+ghost use Rattle.nif_file_reader.specs.Answers.{AreRead, GetsFile, GetsParts, ReadsFile};
 
 use crate::blocks::read_blocks;
 use crate::types::Preamble;
 use nif_base::{NoMemory, Source};
 use nif_check::Checked;
 use nif_decode::{Bounds, decode_value};
+use nif_file::laws::graph_of_file;
 use nif_file::{FileFault, of_value, read_header};
-use nif_graph::{Blocks, GraphParts};
+use nif_graph::{Blocks, Graph, GraphParts};
 use nif_lists::read_lists;
 use nif_stream::Taker;
 use nif_value::{Store, TreeId};
@@ -131,7 +135,7 @@ fn read_parts<S: Source>(
     requires sound { IsSound taker.old }
     requires first { place_of taker.old ≡ 0 }
     ensures went { Went S.still S.read_faults taker.old taker.new }
-    ensures file { GetsFile S.left S.read_faults checked.now taker.old taker.new result }
+    ensures parts { GetsParts S.left S.read_faults checked.now taker.old taker.new result }
 {
     let schema = checked.schema();
     // The contract of `count` says that the names of a schema are different, and its basics of their kinds.
@@ -155,11 +159,15 @@ fn read_parts<S: Source>(
         Ok(rest) => rest,
         Err(fault) => return Err(fault),
     };
+    let indexed = lists.is_indexed();
     Ok(GraphParts {
         store,
         header: header.tree,
         places: header.places,
         context: header.context,
+        strings: header.bounds.strings,
+        indexed,
+        types: lists.into_names(),
         blocks,
         footer,
         nodes: bounds.nodes,
@@ -167,18 +175,52 @@ fn read_parts<S: Source>(
     })
 }
 
+/// The graph of the parts that were read.
+fn graph_of(alloc: Global, checked: &Checked, parts: GraphParts) -> Result<Graph, FileFault>
+    requires { (F : File) × AreRead checked.now parts F }
+    ensures ok { IfOk result (λ graph. (F : File) → AreRead checked.now parts F
+        → IsGraphOf checked.now F graph × (numbered graph.places graph.graph ≡ F)) }
+    ensures err { IfErr result (λ fault. fault ≡ FileFault.NoMemory) }
+{
+    let schema = checked.schema();
+    // The contract of `count` says that the names of a schema are different, and its basics of their kinds.
+    let _declarations = schema.count();
+    graph_of_file();
+    match Graph::from_parts(alloc, parts) {
+        Ok(graph) => Ok(graph),
+        Err(NoMemory) => Err(FileFault::NoMemory),
+    }
+}
+
+/// Reads the graph of a file from its first byte on.
+fn read_graph<S: Source>(
+    alloc: Global,
+    checked: &Checked,
+    taker: &mut Taker<'_, S>,
+) -> Result<Graph, FileFault>
+    requires sound { IsSound taker.old }
+    requires first { place_of taker.old ≡ 0 }
+    ensures went { Went S.still S.read_faults taker.old taker.new }
+    ensures file { GetsFile S.left S.read_faults checked.now taker.old taker.new result }
+{
+    match read_parts(alloc, checked, taker) {
+        Ok(parts) => graph_of(alloc, checked, parts),
+        Err(fault) => Err(fault),
+    }
+}
+
 /// Reads a file by a schema, in whatever pieces its bytes come. F1 to F23 come exactly where the bytes have that first
 /// fault (`docs/FILES.md` says each), and then at most 4,096 bytes beyond those that show it are gone; `ReadFault` only
-/// where a read failed in this call; `NoMemory` where memory ran out.
+/// where a read failed in this call; `NoMemory` where memory ran out. The name of each block of the graph is its place.
 #[tactic(auto, using(nif_stream::specs::TakerLaws::takes))]
 pub fn decode_file<S: Source>(
     alloc: Global,
     checked: &Checked,
     source: &mut S,
-) -> Result<GraphParts, FileFault>
+) -> Result<Graph, FileFault>
     ensures still { S.still source.old source.new }
     ensures file { ReadsFile S.left S.read_faults checked.now source.old source.new result }
 {
     let mut taker = Taker::new(source);
-    read_parts(alloc, checked, &mut taker)
+    read_graph(alloc, checked, &mut taker)
 }

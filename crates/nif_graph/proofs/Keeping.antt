@@ -1,12 +1,11 @@
 -- What is kept, and the graph that it stands for.
-use Rattle.std.proofs.Common.{◌≡◌, ◌≢◌, ◌⊎◌, inl, inr, ℕ, zero, suc, ◌+◌, ◌<◌, ◌≤◌, Bool, true, false, Option, Some, None, IsSome, IfSome, List, [], ◌∷◌, ◌++◌, map, length, take, refl, sym, ◌∙◌, ap, ap₂, subst, arith}
+use Rattle.std.proofs.Common.{◌≡◌, ◌≢◌, inl, inr, ℕ, zero, suc, ◌+◌, ◌^◌, ◌<◌, ◌≤◌, Bool, true, Option, Some, None, IsSome, IfSome, List, [], ◌∷◌, ◌++◌, map, length, take, refl, sym, ◌∙◌, ap, subst, arith}
 use Rattle.std.proofs.lemmas.Bool.{eqb-true, eqb-false, eq-eqb}
-use Rattle.std.proofs.lemmas.Option.{slice_get_within}
-use Rattle.std.specs.Prelude.{◌==◌, if◌then◌else◌, slice_get, is_some, unwrap_or, option_and_then, vec_capacity}
-use Rattle.std.specs.Option.{option_map, option_map_or}
-use Rattle.nif_base.specs.Node.{Node, Members, Num, Line, Ref, Text, Bytes, Group, Row, End, Here, Absent, Reference, refs}
+use Rattle.std.specs.Prelude.{◌==◌, if◌then◌else◌, slice_get, unwrap_or, option_and_then, vec_capacity}
+use Rattle.std.specs.Option.{option_map}
+use Rattle.nif_base.specs.Node.{Node, Bytes, Reference, refs}
 use Rattle.nif_base.specs.File.{Block, nodes_of}
-use Rattle.nif_base.specs.Graph.{Origin, Named, Graph}
+use Rattle.nif_base.specs.Graph.{Origin, Named}
 use Rattle.nif_region.specs.Contents as region
 use Rattle.nif_value.specs.Trees.{Trees, IsLive}
 use Rattle.nif_value.specs.declared.stores.TreeId.{TreeId}
@@ -15,14 +14,13 @@ use Rattle.nif_graph.specs.declared.parts.GraphParts.{GraphParts}
 use Rattle.nif_graph.specs.declared.slots.Slot.{Slot}
 use Rattle.nif_graph.specs.declared.marks.Marks.{Marks}
 use Rattle.nif_graph.specs.declared.places.RolePlaces.{RolePlaces}
-use Rattle.nif_graph.specs.Graph.{find, is_live, place, reference, kind_of, Different, IsGraph}
+use Rattle.nif_graph.specs.Graph.{find, is_live, place, Different, IsGraph}
 use Rattle.nif_graph.specs.Reach.{Leads}
 use Rattle.nif_graph.specs.Slots.{Listed, place_in, slots_from}
-use Rattle.nif_graph.specs.State.{node_at, block_in, origin_of, file_in, graph_in, Differ, keys_of, AreParts}
-use Rattle.nif_graph.specs.Written.{Told, told_at, by_place, has_member, with_told, named_from, numbered, is_indexed}
+use Rattle.nif_graph.specs.State.{node_at, block_in, origin_of, graph_in, Differ, keys_of, AreParts}
+use Rattle.nif_graph.specs.Written.{named_from, numbered, is_indexed}
 use Rattle.nif_graph.specs.Kept.{named_in, kept_graph, kept_keys, IsKept, SlotsLive}
 use Rattle.nif_graph.proofs.Marking.{test, differ}
-use Rattle.nif_graph.proofs.Tables.{slot_at}
 
 pub place_named : (store : Trees) (n : ℕ) (slots : List Slot) → place n (map (named_in store) slots) ≡ place_in n slots
 place_named store n [] = refl
@@ -249,10 +247,10 @@ module _ (parts : GraphParts) (are : AreParts parts) where
   -- what stands of the parts once they are kept
   pub kept : (listed : Listed) (marks : Marks) → listed.slots ≡ slots_from 0 parts.blocks → listed.next ≡ length parts.blocks
       → length marks.marks.items ≡ listed.next → (listed.next + 0 ≤ vec_capacity marks.queue)
-      → (listed.next + 0 ≤ vec_capacity marks.marks)
+      → (listed.next + 0 ≤ vec_capacity marks.marks) → length parts.types.items < 2 ^ 32
       → IsKept parts.store parts.header parts.footer parts.places (origin_of parts.context parts.strings) parts.indexed
       parts.types.items listed parts.nodes marks 0
-  kept listed marks slots next marked queued markable =
+  kept listed marks slots next marked queued markable few_types =
       let same = kept_is listed slots next in
       let keys : kept_keys parts.header parts.footer listed.slots ≡ keys_of parts =
       ap (λ ks. parts.header.run.key ∷ parts.footer.run.key ∷ ks)
@@ -268,7 +266,7 @@ module _ (parts : GraphParts) (are : AreParts parts) where
         queued = queued;
         markable = markable;
         roomy = omega arith;
-        few_types = are.few_types;
+        few_types = few_types;
       }
 
 -- ---- what is kept

@@ -8,7 +8,7 @@ use Rattle.nif_base.specs.File.{Block}
 use Rattle.nif_base.specs.Graph.{Named}
 use Rattle.nif_graph.specs.Graph.{find, is_live}
 use Rattle.nif_graph.specs.Reach.{Walk, Here, Then, Leads, Reaches}
-use Rattle.nif_graph.specs.Marks.{IsMarked, unmarked, IsMarkedOnce, IsQueued, Links, AllMarked, IsExpanded, TellsReached}
+use Rattle.nif_graph.specs.Marks.{IsMarked, unmarked, IsMarkedOnce, IsQueued, Links, IsExpanded, TellsReached}
 
 pub test : (b : Bool) → (b ≡ true) ⊎ (b ≡ false)
 test true = inl refl
@@ -181,8 +181,8 @@ pub expand_once : (links : List Reference) (marks0 : List Bool) (queue0 : List �
     → IsExpanding links marks0 queue0 new longer (k + 1)
 expand_once links marks0 queue0 marks queue k h r s t strong target new longer (inl m) =
     let this : (u : ℕ) → r.strong ≡ true → r.target ≡ Some u → IsMarked marks u = λ u a b.
-        let same : Some t ≡ Some u = sym target ∙ b in
-        let same' : t ≡ u = cc in subst (λ x. IsMarked marks x) same' m.0 in
+    let same : Some t ≡ Some u = sym target ∙ b in
+    let same' : t ≡ u = cc in subst (λ x. IsMarked marks x) same' m.0 in
     let skipped = expand_skips links marks0 queue0 marks queue k h r s this in
     subst (λ l. IsExpanding links marks0 queue0 new l (k + 1)) (sym m.2)
     (subst (λ l. IsExpanding links marks0 queue0 l queue (k + 1)) (sym m.1) skipped)

@@ -1,15 +1,15 @@
 -- What is read of a graph in memory.
-use Rattle.std.proofs.Common.{◌≡◌, ℕ, zero, suc, ◌<◌, ◌≤◌, Bool, true, Option, Some, None, IsSome, IfSome, List, [], ◌∷◌, map, length, refl, sym, ◌∙◌, ap, subst, arith}
-use Rattle.std.specs.Prelude.{is_some, slice_get, unwrap_or, option_and_then}
+use Rattle.std.proofs.Common.{◌≡◌, ℕ, zero, suc, ◌<◌, true, Option, Some, None, IsSome, IfSome, List, [], ◌∷◌, map, length, refl, sym, ◌∙◌, ap, subst, arith}
+use Rattle.std.specs.Prelude.{is_some, slice_get, option_and_then}
 use Rattle.std.specs.Option.{option_map, IsSomeAnd}
-use Rattle.nif_base.specs.Node.{Node, Reference, refs}
+use Rattle.nif_base.specs.Node.{Reference, refs}
 use Rattle.nif_base.specs.File.{Block}
-use Rattle.nif_base.specs.Graph.{Named, Graph}
+use Rattle.nif_base.specs.Graph.{Named}
 use Rattle.nif_region.specs.Contents as region
 use Rattle.nif_value.specs.Trees.{IsLive}
 use Rattle.nif_graph.specs.declared.slots.Slot.{Slot}
 use Rattle.nif_graph.specs.declared.graphs.Graph.TheInside.{Inside}
-use Rattle.nif_graph.specs.Graph.{find, is_live, place, reference, kind_of, IsGraph}
+use Rattle.nif_graph.specs.Graph.{find, is_live, place, reference, IsGraph}
 use Rattle.nif_graph.specs.Slots.{place_in}
 use Rattle.nif_graph.specs.State.{GraphState, node_at, origin_of}
 use Rattle.nif_graph.specs.Kept.{named_in, kept_graph, IsKept}

@@ -4,7 +4,6 @@ use Rattle.std.specs.declared.option.Option.{Option}
 use Rattle.std.specs.Coded.{Coded, code_by, coded×, coded_ℕ, coded_list, coded_option}
 use Rattle.nif_base.specs.Node.{Node}
 use Rattle.nif_base.specs.NodeCodes.{coded_node}
-use Rattle.nif_base.specs.File.{Block}
 use Rattle.nif_base.specs.Graph.{Origin, Named, Graph}
 use Rattle.nif_base.specs.declared.orders.Order.{Order}
 use Rattle.nif_base.specs.contracts.orders.Order as order
@@ -42,6 +41,11 @@ coded_state =
     (coded_option (coded_list coded_ℕ)))))))
     (λ s. (s.graph, (s.places, (s.trees, (s.bytes, (s.room, s.room_for_name))))))
     (λ p. record {
-      graph = p.0; places = p.1.0; trees = p.1.1.0; bytes = p.1.1.1.0; room = p.1.1.1.1.0; room_for_name = p.1.1.1.1.1;
+      graph = p.0;
+      places = p.1.0;
+      trees = p.1.1.0;
+      bytes = p.1.1.1.0;
+      room = p.1.1.1.1.0;
+      room_for_name = p.1.1.1.1.1;
     })
     (λ _. refl)

@@ -1,12 +1,11 @@
 -- What a graph in memory stands for, and what holds of it at every moment.
-use Rattle.std.specs.Prelude.{ℕ, ◌≡◌, ◌+◌, ◌≤◌, ◌<◌, ◌^◌, Bool, List, [], ◌∷◌, length, map, None, Some, slice_get, vec_capacity}
-use Rattle.std.specs.declared.option.Option.{Option}
+use Rattle.std.specs.Prelude.{ℕ, ◌≡◌, ◌+◌, ◌≤◌, ◌<◌, ◌^◌, Bool, List, ◌∷◌, length, map, None, Some, slice_get, vec_capacity}
 use Rattle.nif_base.specs.Graph.{Origin, Named, Graph}
 use Rattle.nif_base.specs.File.{nodes_of}
 use Rattle.nif_value.specs.Trees.{Trees, IsLive}
 use Rattle.nif_value.specs.declared.stores.TreeId.{TreeId}
 use Rattle.nif_graph.specs.Graph.{IsGraph}
-use Rattle.nif_graph.specs.State.{GraphState, node_at, origin_of, Differ}
+use Rattle.nif_graph.specs.State.{node_at, Differ}
 use Rattle.nif_graph.specs.Slots.{Listed}
 use Rattle.nif_graph.specs.Written.{rest_of, numbered, is_indexed}
 use Rattle.nif_graph.specs.declared.places.RolePlaces.{RolePlaces}

@@ -1,5 +1,5 @@
 -- What contracts see of a graph in memory.
-use Rattle.std.specs.Prelude.{ℕ, ◌≡◌, ◌^◌, ◌<◌, List, [], ◌∷◌, length, map, None, Some, unwrap_or, slice_get}
+use Rattle.std.specs.Prelude.{ℕ, ◌≡◌, ◌<◌, List, [], ◌∷◌, length, map, None, Some, unwrap_or, slice_get}
 use Rattle.std.specs.declared.option.Option.{Option}
 use Rattle.nif_base.specs.Node.{Node, Bytes, Reference}
 use Rattle.nif_base.specs.File.{File, Block, nodes_of}
@@ -74,4 +74,3 @@ pub record AreParts (parts : GraphParts) : Type 0 where
       → r.target ≡ Some target → target < length parts.blocks
   pub indexed : parts.indexed ≡ is_indexed parts.places (node_at parts.store parts.header)
   pub nodes : parts.nodes ≡ nodes_of (numbered parts.places (graph_in parts))
-  pub few_types : length parts.types.items < 2 ^ 32

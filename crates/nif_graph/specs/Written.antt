@@ -1,7 +1,6 @@
 -- The file that is written of a graph: each target is the place of its block, and the header says what the graph tells.
-use Rattle.std.specs.Prelude.{ℕ, zero, suc, ◌==◌, Bool, true, false, ◌&&◌, None, Some, List, [], ◌∷◌, map, length, if◌then◌else◌, is_some, unwrap_or}
-use Rattle.std.specs.declared.option.Option.{Option}
-use Rattle.std.specs.Option.{option_map, option_map_or}
+use Rattle.std.specs.Prelude.{ℕ, zero, suc, ◌==◌, Bool, true, false, ◌&&◌, List, [], ◌∷◌, map, length, if◌then◌else◌, unwrap_or}
+use Rattle.std.specs.Option.{option_map_or}
 use Rattle.nif_base.specs.Node.{Node, Members, Num, Bytes, Group, Row, End, Here, Absent, retargeted, size}
 use Rattle.nif_base.specs.File.{Block, File}
 use Rattle.nif_base.specs.Graph.{Origin, Named, Graph}

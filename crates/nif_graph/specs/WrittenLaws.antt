@@ -1,13 +1,13 @@
 -- Laws of what is written of a graph: what was told before doesn't count, and the graph of a file is written as the file.
-use Rattle.std.proofs.Common.{◌≡◌, ◌≢◌, ◌⊎◌, inl, inr, ℕ, zero, suc, ◌+◌, ◌<◌, ◌≤◌, Bool, true, false, Option, Some, None, IfSome, option_and_then, List, [], ◌∷◌, ◌++◌, map, length, refl, sym, ◌∙◌, ap, ap₂, arith}
-use Rattle.std.proofs.lemmas.Bool.{eqb-true, eqb-false, eq-eqb}
+use Rattle.std.proofs.Common.{◌≡◌, ◌≢◌, ◌⊎◌, inl, inr, ℕ, zero, suc, ◌+◌, ◌<◌, Bool, true, false, Option, Some, None, IfSome, List, [], ◌∷◌, ◌++◌, map, length, refl, ◌∙◌, ap, ap₂, arith}
+use Rattle.std.proofs.lemmas.Bool.{eqb-true, eq-eqb}
 use Rattle.std.specs.Prelude.{◌==◌, ◌&&◌, if◌then◌else◌, slice_get}
 use Rattle.std.specs.Option.{option_map, option_map_or}
 use Rattle.nif_base.specs.Node.{Node, Members, Num, Line, Ref, Text, Bytes, Group, Row, End, Here, Absent, Reference, refs, refs_in, retargeted, retargeted_in}
 use Rattle.nif_base.specs.File.{Block, File}
 use Rattle.nif_base.specs.Graph.{Origin, Named, Graph}
 use Rattle.nif_graph.specs.Graph.{place}
-use Rattle.nif_graph.specs.Written.{Told, untold, with_bits, with_items, numbers, strings, told_at, by_place, members_of, has_member, is_indexed, with_told, told_of, block_placed, rest_of, numbered, named_from, graph_of}
+use Rattle.nif_graph.specs.Written.{Told, untold, with_bits, with_items, numbers, strings, told_at, by_place, has_member, is_indexed, with_told, told_of, numbered, named_from, graph_of}
 use Rattle.nif_graph.specs.declared.places.RolePlaces.{RolePlaces}
 
 -- ---- what was told before doesn't count

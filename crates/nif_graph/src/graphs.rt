@@ -93,6 +93,10 @@ impl Graph {
         ensures trees { IfOk result (λ g. g.trees ≡ parts.store) }
         ensures bytes { IfOk result (λ g. g.bytes ≡ parts.bytes) }
     {
+        // More names than a number of 32 bits counts fit in no memory.
+        if parts.types.len() > u32::MAX as usize {
+            return Err(NoMemory);
+        }
         let slots = match named(alloc, &parts.blocks) {
             Ok(slots) => slots,
             Err(NoMemory) => return Err(NoMemory),
@@ -370,7 +374,10 @@ impl Graph {
             Ok(()) => {}
             Err(NoMemory) => return Err(NoMemory),
         }
-        match self.marks.reserve(self.slots.next() as usize + blocks as usize) {
+        match self
+            .marks
+            .reserve(self.slots.next() as usize + blocks as usize)
+        {
             Ok(()) => {}
             Err(NoMemory) => return Err(NoMemory),
         }

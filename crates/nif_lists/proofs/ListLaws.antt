@@ -29,22 +29,39 @@ use Rattle.nif_file.specs.HeaderShapes.{IsNumber, AreNumbers, IsNumberRow, IsStr
 
 -- ---- what is kept of a row of names
 
-string_kept : (S : Schema) (n : Node) (lists : Listed) → IsString n → kept_node (kept S role.Types) n lists ≡ record lists { types = lists.types ++ find_block S (string_in n) ∷ [] }
-string_kept S n lists is = subst (λ n. kept_node (kept S role.Types) n lists ≡ record lists { types = lists.types ++ find_block S (string_in n) ∷ [] }) (sym is.4) refl
+-- with these names and their types behind the others
+abbrev with_names : Schema → List (List ℕ) → Listed → Listed
+with_names S names lists = record lists { names = lists.names ++ names; types = lists.types ++ map (find_block S) names }
 
-strings_kept : (S : Schema) (items : Members) (lists : Listed) → AreStrings items → kept_in (kept S role.Types) items lists ≡ record lists { types = lists.types ++ map (find_block S) (strings_in items) }
-strings_kept S End lists are = sym (ap (λ t. record lists { types = t }) (append-nil lists.types))
+string_kept : (S : Schema) (n : Node) (lists : Listed) → IsString n → kept_node (kept S role.Types) n lists ≡ with_names S (string_in n ∷ []) lists
+string_kept S n lists is = subst (λ n. kept_node (kept S role.Types) n lists ≡ with_names S (string_in n ∷ []) lists) (sym is.4) refl
+
+with_none : (S : Schema) (lists : Listed) → lists ≡ with_names S [] lists
+with_none S lists = λ i. record lists { names = sym (append-nil lists.names) i; types = sym (append-nil lists.types) i }
+
+with_both : (S : Schema) (name : List ℕ) (names : List (List ℕ)) (lists : Listed) → with_names S names (with_names S (name ∷ []) lists) ≡ with_names S (name ∷ names) lists
+with_both S name names lists = λ i. record lists {
+  names = append_assoc lists.names (name ∷ []) names i;
+  types = append_assoc lists.types (find_block S name ∷ []) (map (find_block S) names) i;
+}
+
+strings_kept : (S : Schema) (items : Members) (lists : Listed) → AreStrings items → kept_in (kept S role.Types) items lists ≡ with_names S (strings_in items) lists
+strings_kept S End lists are = with_none S lists
 strings_kept S (Absent rest) lists are = absurd are
 strings_kept S (Here n rest) lists are =
     ap (kept_in (kept S role.Types) rest) (string_kept S n lists are.0)
-    ∙ strings_kept S rest (record lists { types = lists.types ++ find_block S (string_in n) ∷ [] }) are.1
-    ∙ ap (λ t. record lists { types = t }) (append_assoc lists.types (find_block S (string_in n) ∷ []) (map (find_block S) (strings_in rest)))
+    ∙ strings_kept S rest (with_names S (string_in n ∷ []) lists) are.1
+    ∙ with_both S (string_in n) (strings_in rest) lists
 
-types_step : (S : Schema) (got : Option Node) (lists : Listed) → IfSome got IsStringRow → lists.types ≡ [] → kept_member (kept S role.Types) got lists ≡ record lists { types = map (find_block S) (row_in got) }
-types_step S None lists is none = ap (λ t. record lists { types = t }) none
-types_step S (Some n) lists is none =
-    subst (λ n. kept_node (kept S role.Types) n lists ≡ record lists { types = map (find_block S) (row_in (Some n)) }) (sym is.1)
-    (strings_kept S is.0 lists is.2 ∙ ap (λ t. record lists { types = t ++ map (find_block S) (strings_in is.0) }) none)
+-- the names of a row and their types
+abbrev row_names : Schema → Option Node → Listed → Listed
+row_names S got lists = record lists { names = row_in got; types = map (find_block S) (row_in got) }
+
+types_step : (S : Schema) (got : Option Node) (lists : Listed) → IfSome got IsStringRow → lists.names ≡ [] → lists.types ≡ [] → kept_member (kept S role.Types) got lists ≡ row_names S got lists
+types_step S None lists is no_names none = λ i. record lists { names = no_names i; types = none i }
+types_step S (Some n) lists is no_names none =
+    subst (λ n. kept_node (kept S role.Types) n lists ≡ row_names S (Some n) lists) (sym is.1)
+    (strings_kept S is.0 lists is.2 ∙ (λ i. record lists { names = no_names i ++ strings_in is.0; types = none i ++ map (find_block S) (strings_in is.0) }))
 
 -- ---- what is kept of a row of numbers
 
@@ -141,7 +158,7 @@ before_all (Some k) members = by (nat_lt k (count members)) refl
 -- ---- the lists behind so many members
 
 abbrev lists_from : Schema → Option Node → Option Node → Option Node → Listed
-lists_from S types index sizes = record { types = map (find_block S) (row_in types); index = numbers_in index; sizes = numbers_in sizes }
+lists_from S types index sizes = record { names = row_in types; types = map (find_block S) (row_in types); index = numbers_in index; sizes = numbers_in sizes }
 
 abbrev lists_before : Schema → RolePlaces → Members → ℕ → Listed
 lists_before S places members n = lists_from S (before n places.types members) (before n places.index members) (before n places.sizes members)
@@ -182,7 +199,7 @@ advance S places members n is = by (is_at places.types n) refl (is_at places.ind
     by true et i ei s es =
         let at = before_here places.types n members et in
         role_is true i s et ei es
-        ∙ types_step S got now (shaped got (λ k e. is.types n k et e)) (ap (λ t. map (find_block S) (row_in t)) at.0)
+        ∙ types_step S got now (shaped got (λ k e. is.types n k et e)) (ap row_in at.0) (ap (λ t. map (find_block S) (row_in t)) at.0)
         ∙ parts got _ (before n places.index members) _ (before n places.sizes members) _
         (sym at.1) (sym (before_other places.index n members (is.types_index n et))) (sym (before_other places.sizes n members (is.types_sizes n et)))
     by false et true ei s es =
@@ -287,6 +304,7 @@ header_lists S places header is roles at h = subst (λ n. AreListsOf S (head_of 
 
     whole : AreListsOf S (head_of S members) (kept_of S places (Group members))
     whole = subst (AreListsOf S (head_of S members)) (sym lists) (record {
+      names = refl;
       types = refl;
       index = entries (2 ^ 16) (member (codes "Block Type Index") (head_of S members)) (shaped _ (λ n e. index_shape S is roles members h.each n e));
       sizes = entries (2 ^ 32) (member (codes "Block Size") (head_of S members)) (shaped _ (λ n e. sizes_shape S is roles members h.each n e));

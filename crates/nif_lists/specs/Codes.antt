@@ -6,9 +6,9 @@ use Rattle.nif_lists.specs.Lists.{Listed}
 abbrev pub coded_listed : Coded Listed
 coded_listed =
     code_by
-    (List (Option ℕ) × (Option (List ℕ) × Option (List ℕ)))
-    (coded× (coded_list (coded_option coded_ℕ)) (coded× (coded_option (coded_list coded_ℕ))
-    (coded_option (coded_list coded_ℕ))))
-    (λ l. (l.types, (l.index, l.sizes)))
-    (λ p. record { types = p.0; index = p.1.0; sizes = p.1.1 })
+    (List (List ℕ) × (List (Option ℕ) × (Option (List ℕ) × Option (List ℕ))))
+    (coded× (coded_list (coded_list coded_ℕ)) (coded× (coded_list (coded_option coded_ℕ))
+    (coded× (coded_option (coded_list coded_ℕ)) (coded_option (coded_list coded_ℕ)))))
+    (λ l. (l.names, (l.types, (l.index, l.sizes))))
+    (λ p. record { names = p.0; types = p.1.0; index = p.1.1.0; sizes = p.1.1.1 })
     (λ _. refl)

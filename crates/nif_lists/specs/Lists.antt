@@ -16,15 +16,16 @@ use Rattle.nif_lists.specs.declared.roles.Role.{Role}
 use Rattle.nif_lists.specs.declared.roles.Role.TheVariants as role
 use Rattle.nif_lists.specs.Passing.{Keeps, kept_one, behind_first, behind_step, members_ahead}
 
--- The block type of each name of the types, or none where no block type has the name; the index of types and the sizes
--- of the blocks, or none where the header has no such list.
+-- The names of the types, and the block type of each, or none where no block type has the name; the index of types and the
+-- sizes of the blocks, or none where the header has no such list.
 pub record Listed : Type 0 where
+  pub names : List (List ℕ)
   pub types : List (Option ℕ)
   pub index : Option (List ℕ)
   pub sizes : Option (List ℕ)
 
 abbrev pub no_lists : Listed
-no_lists = record { types = []; index = None; sizes = None }
+no_lists = record { names = []; types = []; index = None; sizes = None }
 
 -- the entry of a block in a list, which is 0 behind the last
 abbrev pub entry_of : Option (List ℕ) → ℕ → Option ℕ
@@ -32,6 +33,7 @@ entry_of list block = option_map (λ entries. unwrap_or (slice_get entries block
 
 -- the lists say of a header what is defined by its members
 pub record AreListsOf (S : Schema) (E : Env) (lists : Listed) : Type 0 where
+  pub names : lists.names ≡ type_names E
   pub types : lists.types ≡ map (find_block S) (type_names E)
   pub index : (block : ℕ) → index_word E block ≡ entry_of lists.index block
   pub sizes : (block : ℕ) → stated_size E block ≡ entry_of lists.sizes block
@@ -62,10 +64,13 @@ role_at places k =
     else if is_at places.sizes k then role.Sizes
     else role.Other
 
--- The type of each run of bytes is put behind the others.
-abbrev pub with_type : Schema → Step → List ℕ → List (Option ℕ) → List (Option ℕ)
-with_type S (step.Bytes len) name types = types ++ find_block S name ∷ []
-with_type S _ name types = types
+-- The name that each run of bytes is, and its type, are put behind the others.
+abbrev pub with_type : Schema → Step → List ℕ → Listed → Listed
+with_type S (step.Bytes len) name lists = record lists {
+  names = lists.names ++ name ∷ [];
+  types = lists.types ++ find_block S name ∷ [];
+}
+with_type S _ name lists = lists
 
 -- A row begins a list, and each number is put behind the others, below this one.
 abbrev pub with_number : ℕ → Step → Option (List ℕ) → Option (List ℕ)
@@ -74,7 +79,7 @@ with_number below (step.Num width little bits) list = option_map (λ entries. en
 with_number below _ list = list
 
 abbrev pub kept : Schema → Role → Keeps Listed
-kept S role.Types step bytes lists = record lists { types = with_type S step bytes lists.types }
+kept S role.Types step bytes lists = with_type S step bytes lists
 kept S role.Index step bytes lists = record lists { index = with_number (2 ^ 16) step lists.index }
 kept S role.Sizes step bytes lists = record lists { sizes = with_number (2 ^ 32) step lists.sizes }
 kept S role.Other step bytes lists = lists

@@ -1,11 +1,11 @@
 //! The lists of a header that say something of the blocks.
-ghost use Rattle.std.specs.Prelude.{◌≡◌, ℕ, ◌^◌, slice_get, ◌++◌, ◌∷◌, [], IfOk, OnOk, OnErr};
+ghost use Rattle.std.specs.Prelude.{◌≡◌, ℕ, ◌^◌, slice_get, ◌++◌, ◌∷◌, [], IfOk, OnOk, OnErr, is_some, if◌then◌else◌};
 ghost use Rattle.std.specs.Option.{option_map};
 ghost use Rattle.nif_schema.specs.Schema.{find_block};
 ghost use Rattle.nif_file.specs.Head.{type_place};
 ghost use Rattle.nif_lists.specs.Lists.{entry_of, no_lists, with_number};
 
-use nif_base::NoMemory;
+use nif_base::{NoMemory, Word};
 use nif_schema::Schema;
 use nif_value::Step;
 use std::alloc::Global;
@@ -15,7 +15,9 @@ use std::marker::Model;
 #[derive(Drop)]
 pub struct Lists {
     alloc: Global,
-    // the block type of each name of the types, or none where no block type has the name
+    // the names of the types
+    names: Vec<Word>,
+    // the block type of each of them, or none where no block type has the name
     types: Vec<Option<u32>>,
     // the index of types, if there is one
     index: Option<Vec<u16>>,
@@ -32,7 +34,7 @@ impl Model for Lists {
 
     ghost coded = { coded_listed };
 
-    ghost view = { λ l. record { types = l.types.items; index = option_map (λ words. words.items) l.index; sizes = option_map (λ sizes. sizes.items) l.sizes } };
+    ghost view = { λ l. record { names = l.names.items; types = l.types.items; index = option_map (λ words. words.items) l.index; sizes = option_map (λ sizes. sizes.items) l.sizes } };
 }
 
 /// Index words after a step: a row begins them, and the lowest 16 bits of a number are put behind the others.
@@ -90,24 +92,36 @@ impl Lists {
     {
         Lists {
             alloc,
+            names: Vec::new(alloc),
             types: Vec::new(alloc),
             index: None,
             sizes: None,
         }
     }
 
-    /// Puts the block type of a name behind the others. After want of memory the lists are as before.
+    /// Puts a name and its block type behind the others. After want of memory the lists are as before.
     pub(crate) fn keep_type(&mut self, schema: &Schema, name: &[u8]) -> Result<(), NoMemory>
         ensures ok { OnOk result (self.new ≡ record self.old {
-          types = self.old.types
-              ++ find_block schema.now name.now ∷ [];
+          names = self.old.names ++ name.now ∷ [];
+          types = self.old.types ++ find_block schema.now name.now ∷ [];
         }) }
         ensures err { OnErr result (self.new ≡ self.old) }
     {
-        match self.types.push(schema.find_block(name)) {
-            Ok(()) => Ok(()),
-            Err(_) => Err(NoMemory),
+        let word = match Word::from_bytes(self.alloc, name) {
+            Ok(word) => word,
+            Err(NoMemory) => return Err(NoMemory),
+        };
+        match self.names.reserve(1) {
+            Ok(()) => {}
+            Err(_) => return Err(NoMemory),
         }
+        match self.types.reserve(1) {
+            Ok(()) => {}
+            Err(_) => return Err(NoMemory),
+        }
+        self.names.push_reserved(word);
+        self.types.push_reserved(schema.find_block(name));
+        Ok(())
     }
 
     /// Keeps what a step gives to the index. After want of memory there is no index.
@@ -169,5 +183,22 @@ impl Lists {
             Some(kind) => Some(*kind),
             None => None,
         }
+    }
+
+    /// Whether there is an index of types.
+    pub fn is_indexed(&self) -> bool
+        ensures { result ≡ is_some self.now.index }
+    {
+        self.index.is_some()
+    }
+
+    /// The names of the types where there is an index of them, else none.
+    pub fn into_names(self) -> Vec<Word>
+        ensures { result.items ≡ (if is_some self.index then self.names else []) }
+    {
+        if self.index.is_some() {
+            return self.names;
+        }
+        Vec::new(self.alloc)
     }
 }

@@ -4,18 +4,21 @@ ghost use Rattle.nif_region.specs.Contents.{find};
 ghost use Rattle.nif_test_values.specs.Encoded.{encoded};
 
 use nif_base::{MemSink, NoMemory, Order, WriteFault};
-use nif_encode::{encode_member, encode_members, encode_value};
+use nif_encode::{Targets, encode_member, encode_value};
 use nif_stream::Putter;
 use nif_value::{RefView, Store, TreeId};
 use std::alloc::Global;
 use std::test::Fail;
 
+/// The place of each target.
+const PLACES: &[Option<u32>] = &[None, Some(0), Some(4), None, Some(1), Some(3)];
+
 /// The bytes of the tree in a little file, and in a big one.
 const LITTLE: &[u8] =
-    b"\x02\x01\x02\x01\x04\x03\x02\x01name\n\x07\x05\0\0\0\xff\xff\xff\xffnine byte\x06\0\0\0\xff\xff\xff\xff";
+    b"\x02\x01\x02\x01\x04\x03\x02\x01name\n\x07\x03\0\0\0\xff\xff\xff\xffnine byte\x06\0\0\0\xff\xff\xff\xff";
 
 const BIG: &[u8] =
-    b"\x02\x01\x01\x02\x01\x02\x03\x04name\n\x07\0\0\0\x05\xff\xff\xff\xffnine byte\0\0\0\x06\xff\xff\xff\xff";
+    b"\x02\x01\x01\x02\x01\x02\x03\x04name\n\x07\0\0\0\x03\xff\xff\xff\xffnine byte\0\0\0\x06\xff\xff\xff\xff";
 
 fn build(store: &mut Store) -> Result<TreeId, NoMemory>
     requires { store.old.building ≡ None }
@@ -61,14 +64,18 @@ fn put_whole(
 ) -> Result<(), WriteFault>
     requires { find store.now.trees tree.run.key ≡ Some encoded }
 {
+    let to = Targets {
+        order,
+        places: PLACES,
+    };
     let mut out = Putter::new(sink);
-    match encode_value(store, tree, order, &mut out) {
+    match encode_value(store, tree, &to, &mut out) {
         Ok(()) => out.finish(),
         Err(fault) => Err(fault),
     }
 }
 
-/// Puts the members of the tree: the first four one by one, none, and the others.
+/// Puts the members of the tree, one by one.
 fn put_members(
     store: &Store,
     tree: TreeId,
@@ -77,12 +84,14 @@ fn put_members(
 ) -> Result<(), WriteFault>
     requires { find store.now.trees tree.run.key ≡ Some encoded }
 {
+    let to = Targets {
+        order,
+        places: PLACES,
+    };
     let mut out = Putter::new(sink);
-    for member in 0..4 {
-        encode_member(store, tree, member, order, &mut out)?;
+    for member in 0..12 {
+        encode_member(store, tree, member, &to, &mut out)?;
     }
-    encode_members(store, tree, 4, 4, order, &mut out)?;
-    encode_members(store, tree, 4, 12, order, &mut out)?;
     out.finish()
 }
 
@@ -114,7 +123,11 @@ fn answers_a_failing_write(rt: HostRuntime) -> Result<(), Fail> {
     for call in 0..8 {
         let mut sink = MemSink::new(rt.alloc(), 7, Some(call));
         let mut out = Putter::new(&mut sink);
-        let answer = encode_members(&store, tree, 0, 12, Order::Little, &mut out);
+        let to = Targets {
+            order: Order::Little,
+            places: PLACES,
+        };
+        let answer = encode_value(&store, tree, &to, &mut out);
         let failed = answer.is_err() || out.finish().is_err();
         assert!(rt; failed == (call < 6));
         assert!(rt; LITTLE.starts_with(sink.bytes()));

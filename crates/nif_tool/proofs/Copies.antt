@@ -1,23 +1,24 @@
 -- What creating, writing and copying a file do to the files that are told.
-use Rattle.std.proofs.Common.{◌≡◌, ℕ, suc, List, [], ◌∷◌, length, Option, Some, None, Ok, Err, take, refl, sym, ap, subst, ◌∙◌}
+use Rattle.std.proofs.Common.{◌≡◌, ℕ, suc, List, [], ◌∷◌, length, map, Option, Some, None, Ok, Err, take, refl, sym, ap, subst, ◌∙◌}
 use Rattle.std.specs.Option.{option_map, IfSome, IsSomeAnd}
 use Rattle.std.specs.FinMap.{get, insert}
-use Rattle.nif_base.specs.File.{Block, File, nodes_of}
+use Rattle.nif_base.specs.File.{File, nodes_of}
+use Rattle.nif_base.specs.Graph.{Named, Graph}
 use Rattle.nif_base.specs.Shelf.{Files, Desk, created, written, files_written-created}
 use Rattle.nif_schema.specs.Schema.{Schema}
-use Rattle.nif_value.specs.Trees.{Trees}
-use Rattle.nif_graph.specs.declared.parts.BlockPart.{BlockPart}
-use Rattle.nif_graph.specs.declared.parts.GraphParts.{GraphParts}
+use Rattle.nif_graph.specs.State.{GraphState}
+use Rattle.nif_graph.specs.Written.{block_placed, numbered}
 use Rattle.nif_file.specs.Files.{IsFile, head_in, text_of}
 use Rattle.nif_file.specs.Head.{version_in}
-use Rattle.nif_file.specs.PartsSay.{SaysFile, SaysBlocks}
+use Rattle.nif_file.specs.GraphOf.{IsWhole, origin_in}
 use Rattle.nif_file.specs.LengthLaws.{size_is_length}
 use Rattle.nif_print.specs.Files.{summary_text}
 use Rattle.nif_tool.specs.Command.{SchemaName}
 use Rattle.nif_tool.specs.Schemas.{HasSchema}
 use Rattle.nif_tool.specs.Meaning.{files_of, Accepts, Checks, IsLineBy, WhereTold, summary_of}
-use Rattle.nif_tool.specs.Steps.{CopiesBy, IsAccepted, Stores, parts_summary}
+use Rattle.nif_tool.specs.Steps.{CopiesBy, IsAccepted, IsLoaded, Stores, graph_summary}
 use Rattle.nif_tool.specs.declared.files.Accepted.{Accepted}
+use Rattle.nif_tool.specs.declared.report.Fault.{Fault}
 use Rattle.nif_tool.specs.declared.report.Fault.TheVariants as fault
 
 -- a file that was created and written whole
@@ -36,22 +37,30 @@ stored_part (Some k) b d name bytes n e f =
     subst (λ x. WhereTold (Some k.files) (files_of x) (λ old new. Stores {T = Unit {0}} name bytes old new (Err fault.WriteFault))) (sym (f ∙ ap (option_map (written (take n bytes))) e))
     (n, files_written-created k.files name (take n bytes))
 
--- as many blocks are said as there are
-blocks_said : (store : Trees) (parts : List BlockPart) (blocks : List Block) → SaysBlocks store parts blocks → length parts ≡ length blocks
-blocks_said store [] [] says = refl
-blocks_said store [] (block ∷ blocks) says = absurd says
-blocks_said store (part ∷ parts) [] says = absurd says
-blocks_said store (part ∷ parts) (block ∷ blocks) says = ap (λ n. suc n) (blocks_said store parts blocks says.1)
+-- as many are written as there are
+written_count : (blocks rest : List Named) → length (map (λ (b : Named). block_placed blocks b.block) rest) ≡ length rest
+written_count blocks [] = refl
+written_count blocks (b ∷ rest) = ap suc (written_count blocks rest)
 
--- the line of the parts is that of the file that they say
-pub summary_said : (schema : Schema) (parts : GraphParts) (whole : File) → SaysFile schema parts whole → IsFile schema whole (text_of schema whole)
-    → parts_summary parts ≡ summary_of schema whole (text_of schema whole)
-summary_said schema parts whole says is =
-    let version : parts.context.version.number ≡ version_in (head_in schema whole) = says.context.version in
-    let blocks : length parts.blocks ≡ length whole.blocks = blocks_said parts.store parts.blocks whole.blocks says.blocks in
-    let bytes : parts.bytes ≡ length (text_of schema whole) = says.bytes ∙ size_is_length schema whole (text_of schema whole) is in
-    let nodes : parts.nodes ≡ nodes_of whole = says.nodes in
+-- the line of a graph is that of its file
+pub summary_said : (schema : Schema) (name : List ℕ) (files : Option Files) (state : GraphState) (is : IsLoaded schema name files state)
+    → graph_summary state ≡ summary_of schema is.whole (text_of schema is.whole)
+summary_said schema name files state is =
+    let whole = is.whole in
+    let version : state.graph.origin.version ≡ version_in (head_in schema whole) = ap (λ (G : Graph). G.origin.version) is.graph.graph in
+    let blocks : length state.graph.blocks ≡ length whole.blocks =
+    sym (written_count state.graph.blocks state.graph.blocks) ∙ ap (λ (F : File). length F.blocks) is.again in
+    let bytes : state.bytes ≡ length (text_of schema whole) = is.graph.bytes ∙ size_is_length schema whole (text_of schema whole) is.is in
+    let nodes : nodes_of (numbered state.places state.graph) ≡ nodes_of whole = ap nodes_of is.again in
     λ i. summary_text (version i) (blocks i) (bytes i) (nodes i)
+
+-- what is written of a graph that was read is the file
+pub whole_read : (schema : Schema) (name : List ℕ) (files : Option Files) (state : GraphState) → IsLoaded schema name files state → IsWhole schema state
+whole_read schema name files state is = record {
+  places = is.graph.places;
+  is = subst (λ F. IsFile schema F (text_of schema F)) (sym is.again) is.is;
+  origin = subst (λ F. state.graph.origin ≡ origin_in schema (head_in schema F)) (sym is.again) (ap (λ (G : Graph). G.origin) is.graph.graph);
+}
 
 -- a file that was read by its schema is accepted
 pub accepted_as : (name : SchemaName) (file : List ℕ) (d : Files) (schema : Schema) (whole : File) (P : Schema → File → List ℕ → Type 0)
@@ -62,37 +71,67 @@ accepted_as name file d schema whole P passes there is p =
 
 -- with its line
 pub checked_as : (name : SchemaName) (file : List ℕ) (old : Option Files) (accepted : Accepted) → IsAccepted name file old accepted
-    → IfSome old (λ d. Checks name file d None (parts_summary accepted.parts))
+    → IfSome old (λ d. Checks name file d None (graph_summary accepted.graph))
 checked_as name file None accepted is = tt
 checked_as name file (Some d) accepted is =
-    accepted_as name file d accepted.schema is.loaded.whole (λ schema whole bytes. parts_summary accepted.parts ≡ summary_of schema whole bytes) is.passes is.loaded.told is.loaded.is
-    (summary_said accepted.schema accepted.parts is.loaded.whole is.loaded.says is.loaded.is)
+    accepted_as name file d accepted.schema is.loaded.whole (λ schema whole bytes. graph_summary accepted.graph ≡ summary_of schema whole bytes) is.passes is.loaded.told is.loaded.is
+    (summary_said accepted.schema file (Some d) accepted.graph is.loaded)
 
 -- its line, whether files are told or not
-pub line_by : (name : SchemaName) (file : List ℕ) (old : Option Files) (accepted : Accepted) → IsAccepted name file old accepted → IsLineBy name old (parts_summary accepted.parts)
+pub line_by : (name : SchemaName) (file : List ℕ) (old : Option Files) (accepted : Accepted) → IsAccepted name file old accepted → IsLineBy name old (graph_summary accepted.graph)
 line_by name file old accepted is = (
   accepted.schema,
   is.loaded.whole,
   text_of accepted.schema is.loaded.whole,
   (is.schema, is.told),
   is.loaded.is,
-  summary_said accepted.schema accepted.parts is.loaded.whole is.loaded.says is.loaded.is,
+  summary_said accepted.schema file old accepted.graph is.loaded,
 )
+
+-- the bytes that are written of its graph
+abbrev pub written_of : Accepted → List ℕ
+written_of accepted = text_of accepted.schema (numbered accepted.graph.places accepted.graph.graph)
 
 -- and then written
 copied_whole : (name : SchemaName) (file copy : List ℕ) (d e : Files) (accepted : Accepted) (is : IsAccepted name file (Some d) accepted)
-    → e ≡ insert d copy (text_of accepted.schema is.loaded.whole) → CopiesBy name file copy d e (Ok accepted)
+    → e ≡ insert d copy (written_of accepted) → CopiesBy name file copy d e (Ok accepted)
 copied_whole name file copy d e accepted is stored =
-    accepted_as name file d accepted.schema is.loaded.whole (λ schema whole bytes. (parts_summary accepted.parts ≡ summary_of schema whole bytes) × (e ≡ insert d copy bytes)) is.passes is.loaded.told is.loaded.is
-    (summary_said accepted.schema accepted.parts is.loaded.whole is.loaded.says is.loaded.is, stored)
+    accepted_as name file d accepted.schema is.loaded.whole (λ schema whole bytes. (graph_summary accepted.graph ≡ summary_of schema whole bytes) × (e ≡ insert d copy bytes)) is.passes is.loaded.told is.loaded.is
+    (summary_said accepted.schema file (Some d) accepted.graph is.loaded, stored ∙ ap (λ F. insert d copy (text_of accepted.schema F)) is.loaded.again)
 
 pub copied : (name : SchemaName) (file copy : List ℕ) (old mid new : Option Files) (accepted : Accepted) (is : IsAccepted name file old accepted) (done : Unit {0}) → mid ≡ old
-    → WhereTold mid new (λ d e. Stores {T = Unit {0}} copy (text_of accepted.schema is.loaded.whole) d e (Ok done))
+    → WhereTold mid new (λ d e. Stores {T = Unit {0}} copy (written_of accepted) d e (Ok done))
     → WhereTold old new (λ d e. CopiesBy name file copy d e (Ok accepted))
 copied name file copy None mid new accepted is done same stores = tt
 copied name file copy (Some d) mid new accepted is done same stores =
-    told new (subst (λ m. WhereTold m new (λ d e. Stores {T = Unit {0}} copy (text_of accepted.schema is.loaded.whole) d e (Ok done))) same stores)
+    told new (subst (λ m. WhereTold m new (λ d e. Stores {T = Unit {0}} copy (written_of accepted) d e (Ok done))) same stores)
   where
-    told : (new : Option Files) → IsSomeAnd new (λ e. e ≡ insert d copy (text_of accepted.schema is.loaded.whole)) → IsSomeAnd new (λ e. CopiesBy name file copy d e (Ok accepted))
+    told : (new : Option Files) → IsSomeAnd new (λ e. e ≡ insert d copy (written_of accepted)) → IsSomeAnd new (λ e. CopiesBy name file copy d e (Ok accepted))
     told None h = h
     told (Some e) h = copied_whole name file copy d e accepted is h
+
+-- and then not, or in part
+copied_part : (name : SchemaName) (file copy : List ℕ) (d e : Files) (accepted : Accepted) → IsAccepted name file (Some d) accepted → (refusal : Fault)
+    → Stores {T = Unit {0}} copy (written_of accepted) d e (Err refusal) → CopiesBy name file copy d e (Err refusal)
+copied_part name file copy d e accepted is fault.OpenFault stored = (tt, stored)
+copied_part name file copy d e accepted is fault.WriteFault stored =
+    accepted_as name file d accepted.schema is.loaded.whole (λ schema whole bytes. (n : ℕ) × (e ≡ insert d copy (take n bytes))) is.passes is.loaded.told is.loaded.is
+    (stored.0, stored.1 ∙ ap (λ F. insert d copy (take stored.0 (text_of accepted.schema F))) is.loaded.again)
+copied_part name file copy d e accepted is fault.Usage stored = absurd stored
+copied_part name file copy d e accepted is (fault.Schema _) stored = absurd stored
+copied_part name file copy d e accepted is (fault.File _) stored = absurd stored
+copied_part name file copy d e accepted is fault.ReadFault stored = absurd stored
+copied_part name file copy d e accepted is fault.PrintFault stored = absurd stored
+copied_part name file copy d e accepted is fault.NoMemory stored = absurd stored
+
+pub copy_failed : (name : SchemaName) (file copy : List ℕ) (old mid new : Option Files) (accepted : Accepted) → IsAccepted name file old accepted → (refusal : Fault) → mid ≡ old
+    → WhereTold mid new (λ d e. Stores {T = Unit {0}} copy (written_of accepted) d e (Err refusal))
+    → WhereTold old new (λ d e. CopiesBy name file copy d e (Err refusal))
+copy_failed name file copy None mid new accepted is refusal same stores = tt
+copy_failed name file copy (Some d) mid new accepted is refusal same stores =
+    told new (subst (λ m. WhereTold m new (λ d e. Stores {T = Unit {0}} copy (written_of accepted) d e (Err refusal))) same stores)
+  where
+    told : (new : Option Files) → IsSomeAnd new (λ e. Stores {T = Unit {0}} copy (written_of accepted) d e (Err refusal))
+        → IsSomeAnd new (λ e. CopiesBy name file copy d e (Err refusal))
+    told None h = h
+    told (Some e) h = copied_part name file copy d e accepted is refusal h

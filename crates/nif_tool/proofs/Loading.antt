@@ -5,7 +5,7 @@ use Rattle.std.specs.FinMap.{get}
 use Rattle.nif_base.specs.Outside.{Rose}
 use Rattle.nif_base.specs.Shelf.{Desk, Opens, opened}
 use Rattle.nif_schema.specs.Schema.{Schema}
-use Rattle.nif_graph.specs.declared.parts.GraphParts.{GraphParts}
+use Rattle.nif_graph.specs.State.{GraphState}
 use Rattle.nif_file.specs.declared.faults.FileFault.{FileFault}
 use Rattle.nif_file.specs.declared.faults.FileFault.TheVariants as file_faults
 use Rattle.nif_file.specs.FileFails.{FileFails}
@@ -26,9 +26,9 @@ pub files_opened : (a b d : Option Desk) (name : List ℕ) → b ≡ option_map 
 files_opened a b d name e f = ap files_of (f ∙ e) ∙ files_kept a name
 
 -- a file that was opened and read
-pub loaded : (schema : Schema) (name : List ℕ) (desk : Option Desk) (left rest : Option (List ℕ)) (parts : GraphParts) → IfSome desk (Opens name left) → HasFile schema left rest parts
-    → IsLoaded schema name (files_of desk) parts
-loaded schema name desk left rest parts opens has = record { whole = has.file; says = has.says; is = has.is; told = told desk opens }
+pub loaded : (schema : Schema) (name : List ℕ) (desk : Option Desk) (left rest : Option (List ℕ)) (state : GraphState) → IfSome desk (Opens name left) → HasFile schema left rest state
+    → IsLoaded schema name (files_of desk) state
+loaded schema name desk left rest state opens has = record { whole = has.file; is = has.is; graph = has.graph; again = has.again; told = told desk opens }
   where
     there : (held left : Option (List ℕ)) → IsSome held → left ≡ held → IfSome left (λ b. b ≡ text_of schema has.file) → held ≡ Some (text_of schema has.file)
     there None left some same is = absurd (cc)

@@ -7,7 +7,7 @@ use Rattle.nif_tool.specs.Command.{SchemaName, Check, Copy}
 use Rattle.nif_tool.specs.Command as command
 use Rattle.nif_schema.specs.Schema.{Schema, IsSchema}
 use Rattle.nif_print.specs.Listing.{IsListing}
-use Rattle.nif_tool.specs.Steps.{CopiesBy, Gets, IsAccepted, parts_summary}
+use Rattle.nif_tool.specs.Steps.{CopiesBy, Gets, IsAccepted, graph_summary}
 use Rattle.nif_tool.specs.Schemas.{told_bytes}
 use Rattle.nif_tool.specs.Lines.{line_of}
 use Rattle.nif_tool.specs.Meaning.{Answers, CanAnswer, CanFail, CanLack, Checks, Copies, HasCauses, IsLineBy, Lists, Prints, Refused, WhereTold}
@@ -80,7 +80,7 @@ schema_refused name old new refusal before after answer text can gets same cause
 -- a file that was checked
 pub check_done : (name : SchemaName) (file : List ℕ) (old new : Option Files) (accepted : Accepted) (before after : Counts) (answer : Option Fault) (text : List ℕ)
     → IsAccepted name file old accepted → new ≡ old → HasCauses None before after
-    → (answer ≡ None) × (text ≡ parts_summary accepted.parts) → Answers (Some (Check name file)) old new answer text × HasCauses answer before after
+    → (answer ≡ None) × (text ≡ graph_summary accepted.graph) → Answers (Some (Check name file)) old new answer text × HasCauses answer before after
 check_done name file old new accepted before after answer text accepts same causes is =
     subst (λ a. Answers (Some (Check name file)) old new a text × HasCauses a before after) (sym is.0)
     ((tt, (subst (λ t. IfSome old (λ d. Checks name file d None t)) (sym is.1) (checked_as name file old accepted accepts), same), tt, subst (IsLineBy name old) (sym is.1) (line_by name file old accepted accepts)), causes)
@@ -96,7 +96,7 @@ check_refused name file old new refusal before after answer text can refused sam
 -- a file that was copied
 pub copy_done : (name : SchemaName) (file copy : List ℕ) (old new : Option Files) (accepted : Accepted) (before after : Counts) (answer : Option Fault) (text : List ℕ)
     → WhereTold old new (λ d e. CopiesBy name file copy d e (Ok accepted)) → IsAccepted name file old accepted → HasCauses None before after
-    → (answer ≡ None) × (text ≡ parts_summary accepted.parts) → Answers (Some (Copy name file copy)) old new answer text × HasCauses answer before after
+    → (answer ≡ None) × (text ≡ graph_summary accepted.graph) → Answers (Some (Copy name file copy)) old new answer text × HasCauses answer before after
 copy_done name file copy old new accepted before after answer text copies accepts causes is =
     subst (λ a. Answers (Some (Copy name file copy)) old new a text × HasCauses a before after) (sym is.0)
     ((tt, subst (λ t. WhereTold old new (λ d e. Copies name file copy d e None t)) (sym is.1) copies, tt, subst (IsLineBy name old) (sym is.1) (line_by name file old accepted accepts)), causes)

@@ -5,14 +5,15 @@ use Rattle.std.specs.declared.option.Option.{Option}
 use Rattle.std.specs.declared.result.Result.{Result}
 use Rattle.std.specs.declared.alloc.Global.{Global}
 use Rattle.std.specs.FinMap.{get, insert}
-use Rattle.nif_base.specs.File.{File}
+use Rattle.nif_base.specs.File.{File, nodes_of}
 use Rattle.nif_base.specs.Shelf.{Files}
 use Rattle.nif_schema.specs.Schema.{Schema, IsSchema}
 use Rattle.nif_schema.specs.declared.faults.SchemaFault.TheVariants as schema_faults
-use Rattle.nif_graph.specs.declared.parts.GraphParts.{GraphParts}
+use Rattle.nif_graph.specs.State.{GraphState}
+use Rattle.nif_graph.specs.Written.{numbered}
 use Rattle.nif_file.specs.Files.{IsFile, text_of}
 use Rattle.nif_file.specs.FileFails.{FileFails}
-use Rattle.nif_file.specs.PartsSay.{SaysFile}
+use Rattle.nif_file.specs.GraphOf.{IsGraphOf}
 use Rattle.nif_print.specs.Files.{summary_text}
 use Rattle.nif_tool.specs.Command.{SchemaName}
 use Rattle.nif_tool.specs.Meaning.{Copies, FileIs, Refused}
@@ -45,16 +46,18 @@ Gets bytes (Ok schema) = IsSomeAnd bytes (λ b. Passes b schema)
 Gets bytes (Err (fault.Schema refusal)) = IsSomeAnd bytes (λ b. Refuses b refusal)
 Gets bytes (Err _) = ⊤
 
--- The parts say a file, which the bytes of this name spell where they are told.
-pub record IsLoaded (schema : Schema) (name : List ℕ) (files : Option Files) (parts : GraphParts) : Type 0 where
+-- The graph is that of a file, which is what is written of it, and which the bytes of this name spell where they are
+-- told.
+pub record IsLoaded (schema : Schema) (name : List ℕ) (files : Option Files) (state : GraphState) : Type 0 where
   pub whole : File
-  pub says : SaysFile schema parts whole
   pub is : IsFile schema whole (text_of schema whole)
+  pub graph : IsGraphOf schema whole state
+  pub again : numbered state.places state.graph ≡ whole
   pub told : IfSome files (λ d. get d name ≡ Some (text_of schema whole))
 
 -- what reading a file by a schema answers
-abbrev pub Loads : Schema → List ℕ → Option Files → Result GraphParts Fault → Type 0
-Loads schema name files (Ok parts) = IsLoaded schema name files parts
+abbrev pub Loads : Schema → List ℕ → Option Files → Result GraphState Fault → Type 0
+Loads schema name files (Ok state) = IsLoaded schema name files state
 Loads schema name files (Err (fault.File refusal)) = IfSome files
     (λ d. FileIs name d (λ bytes. FileFails schema bytes refusal))
 Loads schema name files (Err fault.OpenFault) = ⊤
@@ -67,16 +70,17 @@ pub record IsAccepted (name : SchemaName) (file : List ℕ) (files : Option File
   pub schema : IsSchema accepted.schema
   pub passes : IfSome files (λ d. HasSchema name d accepted.schema)
   pub told : IfSome (told_bytes name files) (λ bytes. IsSomeAnd bytes (λ b. Passes b accepted.schema))
-  pub loaded : IsLoaded accepted.schema file files accepted.parts
+  pub loaded : IsLoaded accepted.schema file files accepted.graph
 
 -- what getting a schema and reading a file by it answers
 abbrev pub AcceptsBy : SchemaName → List ℕ → Option Files → Result Accepted Fault → Type 0
 AcceptsBy name file files (Ok accepted) = IsAccepted name file files accepted
 AcceptsBy name file files (Err refusal) = IfSome files (λ d. Refused name file d refusal)
 
--- the line of the parts of a file
-abbrev pub parts_summary : GraphParts → List ℕ
-parts_summary parts = summary_text parts.context.version.number (length parts.blocks) parts.bytes parts.nodes
+-- the line of the file of a graph
+abbrev pub graph_summary : GraphState → List ℕ
+graph_summary state = summary_text state.graph.origin.version (length state.graph.blocks) state.bytes
+    (nodes_of (numbered state.places state.graph))
 
 -- what writing bytes to a new file answers
 abbrev pub Stores : {T : Type 0} → List ℕ → List ℕ → Files → Files → Result T Fault → Type 0
@@ -87,5 +91,5 @@ Stores name bytes old new (Err _) = ⊥
 
 -- what copying a file answers
 abbrev pub CopiesBy : SchemaName → List ℕ → List ℕ → Files → Files → Result Accepted Fault → Type 0
-CopiesBy name file copy old new (Ok accepted) = Copies name file copy old new None (parts_summary accepted.parts)
+CopiesBy name file copy old new (Ok accepted) = Copies name file copy old new None (graph_summary accepted.graph)
 CopiesBy name file copy old new (Err refusal) = Copies name file copy old new (Some refusal) []

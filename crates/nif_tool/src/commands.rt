@@ -62,7 +62,7 @@ fn check_command<S: Shelf, K: Sink>(
         (S.refused shelf.new) }
 {
     match accept(alloc, schema, file, shelf) {
-        Ok(accepted) => print_summary(&accepted.parts, out),
+        Ok(accepted) => print_summary(&accepted.graph, out),
         Err(fault) => refuse(fault, out),
     }
 }
@@ -88,7 +88,7 @@ fn copy_command<S: Shelf, K: Sink>(
         (S.refused shelf.new) }
 {
     match copy(alloc, schema, file, to, shelf) {
-        Ok(accepted) => print_summary(&accepted.parts, out),
+        Ok(accepted) => print_summary(&accepted.graph, out),
         Err(fault) => refuse(fault, out),
     }
 }

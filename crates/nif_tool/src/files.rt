@@ -1,9 +1,9 @@
 //! Files: one is read whole by a schema, and only then a copy of it is created.
 ghost use Rattle.std.specs.Prelude.{◌≡◌, ◌≢◌, ◌⊎◌, Some, Ok, Err, IfOk, IfErr, IfSome};
 ghost use Rattle.std.specs.Result.{result_err};
-ghost use Rattle.nif_base.specs.File.{File};
-ghost use Rattle.nif_file.specs.Files.{text_of, IsFile};
-ghost use Rattle.nif_file.specs.PartsSay.{SaysFile};
+ghost use Rattle.nif_file.specs.Files.{text_of};
+ghost use Rattle.nif_file.specs.GraphOf.{IsWhole};
+ghost use Rattle.nif_graph.specs.Written.{numbered};
 ghost use Rattle.nif_tool.specs.Command.{Check, Copy};
 ghost use Rattle.nif_tool.specs.Words.{schema_name};
 ghost use Rattle.nif_tool.specs.Meaning.{files_of, CanAnswer, CanFail, Causes, RefusedFor, ReadFrom, WhereTold};
@@ -17,7 +17,7 @@ use nif_base::{Failed, Kind, Shelf, WriteFault};
 use nif_check::Checked;
 use nif_file::{FileFault, encode_file};
 use nif_file_reader::decode_file;
-use nif_graph::GraphParts;
+use nif_graph::Graph;
 use std::alloc::Global;
 
 /// A file that was read, and the schema by which it was.
@@ -25,8 +25,8 @@ use std::alloc::Global;
 pub struct Accepted {
     /// The schema, which passed.
     pub schema: Checked,
-    /// The parts of the file.
-    pub parts: GraphParts,
+    /// The graph of the file.
+    pub graph: Graph,
 }
 
 /// The refusal of a file, a fault of reading it or want of memory.
@@ -46,7 +46,7 @@ fn load<S: Shelf>(
     schema: &Checked,
     name: &str,
     shelf: &mut S,
-) -> Result<GraphParts, Fault>
+) -> Result<Graph, Fault>
     ensures loads { Loads schema.now name.now (files_of (S.desk shelf.old)) result }
     ensures answers { IfErr result CanFail }
     ensures faults { IfErr result (λ f. (f ≢ Fault.Usage) × (f ≢ Fault.WriteFault) × (f ≢ Fault.PrintFault)) }
@@ -62,7 +62,7 @@ fn load<S: Shelf>(
         Err(Failed) => return Err(Fault::OpenFault),
     }
     match decode_file(alloc, schema, shelf) {
-        Ok(parts) => Ok(parts),
+        Ok(graph) => Ok(graph),
         Err(fault) => Err(failure(fault)),
     }
 }
@@ -89,27 +89,20 @@ pub fn accept<S: Shelf>(
         Err(fault) => return Err(fault),
     };
     match load(alloc, &checked, file, shelf) {
-        Ok(parts) => Ok(Accepted {
+        Ok(graph) => Ok(Accepted {
             schema: checked,
-            parts,
+            graph,
         }),
         Err(fault) => Err(fault),
     }
 }
 
-/// Creates a file, and writes the parts of a file to it. It takes no memory.
-fn store<S: Shelf>(
-    schema: &Checked,
-    parts: &GraphParts,
-    name: &str,
-    shelf: &mut S,
-) -> Result<(), Fault>
-    requires { (whole : File) × SaysFile schema.now parts.now whole
-        × IsFile schema.now whole (text_of schema.now whole) }
+/// Creates a file, and writes what a graph stands for to it. It takes no memory.
+fn store<S: Shelf>(schema: &Checked, graph: &Graph, name: &str, shelf: &mut S) -> Result<(), Fault>
+    requires { IsWhole schema.now graph.now }
     ensures faults { IfErr result (λ f. (f ≡ Fault.OpenFault) ⊎ (f ≡ Fault.WriteFault)) }
-    ensures stores { (whole : File) → SaysFile schema.now parts.now whole
-        → WhereTold (files_of (S.desk shelf.old)) (files_of (S.desk shelf.new))
-        (λ d e. Stores name.now (text_of schema.now whole) d e result) }
+    ensures stores { WhereTold (files_of (S.desk shelf.old)) (files_of (S.desk shelf.new))
+        (λ d e. Stores name.now (text_of schema.now (numbered graph.now.places graph.now.graph)) d e result) }
     ensures causes { Causes S.open_faults S.read_faults S.write_faults shelf.old shelf.new (result_err result) }
     ensures refused { result_err result ≡ Some Fault.OpenFault
         → IfSome (S.refused shelf.new) (λ r. (r.kind ≡ Kind.Output) × (r.name ≡ name.now)) }
@@ -118,7 +111,7 @@ fn store<S: Shelf>(
         Ok(()) => {}
         Err(Failed) => return Err(Fault::OpenFault),
     }
-    match encode_file(schema.schema(), parts, shelf) {
+    match encode_file(schema.schema(), graph, shelf) {
         Ok(()) => Ok(()),
         Err(WriteFault) => Err(Fault::WriteFault),
     }
@@ -147,7 +140,7 @@ pub fn copy<S: Shelf>(
         Ok(accepted) => accepted,
         Err(fault) => return Err(fault),
     };
-    match store(&accepted.schema, &accepted.parts, to, shelf) {
+    match store(&accepted.schema, &accepted.graph, to, shelf) {
         Ok(()) => Ok(accepted),
         Err(fault) => Err(fault),
     }

@@ -4,12 +4,12 @@ ghost use Rattle.nif_stream.specs.Putting.{HasTaken};
 ghost use Rattle.nif_base.specs.Outside.{HasCause, Rose};
 ghost use Rattle.nif_print.specs.Listing.{IsListing};
 ghost use Rattle.nif_tool.specs.Meaning.{Prints};
-ghost use Rattle.nif_tool.specs.Steps.{parts_summary};
+ghost use Rattle.nif_tool.specs.Steps.{graph_summary};
 
 use crate::report::Fault;
 use nif_base::{Sink, WriteFault};
 use nif_check::Checked;
-use nif_graph::GraphParts;
+use nif_graph::Graph;
 use nif_print::{put_summary, schema_list};
 use nif_stream::Putter;
 
@@ -42,17 +42,17 @@ pub fn print_list<K: Sink>(checked: &Checked, out: &mut K) -> Option<Fault>
 
 /// Writes the line of a file.
 #[tactic(auto, using(nif_stream::specs::PutterLaws::puts))]
-fn write_summary<K: Sink>(parts: &GraphParts, out: &mut K) -> Result<(), WriteFault>
-    ensures ok { OnOk result (K.grew out.old (parts_summary parts.now) out.new) }
-    ensures err { OnErr result (HasTaken K.grew out.old out.new (parts_summary parts.now)) }
+fn write_summary<K: Sink>(graph: &Graph, out: &mut K) -> Result<(), WriteFault>
+    ensures ok { OnOk result (K.grew out.old (graph_summary graph.now) out.new) }
+    ensures err { OnErr result (HasTaken K.grew out.old out.new (graph_summary graph.now)) }
     ensures cause { HasCause (K.write_faults out.old) (K.write_faults out.new) result }
 {
     let mut putter = Putter::new(out);
     match put_summary(
-        parts.context.version,
-        parts.blocks.len(),
-        parts.bytes,
-        parts.nodes,
+        graph.context().version,
+        graph.count(),
+        graph.file_len(),
+        graph.nodes(),
         &mut putter,
     ) {
         Ok(()) => {}
@@ -62,12 +62,12 @@ fn write_summary<K: Sink>(parts: &GraphParts, out: &mut K) -> Result<(), WriteFa
 }
 
 /// Prints the line of a file; where that fails, a prefix of it was printed. It takes no memory.
-pub fn print_summary<K: Sink>(parts: &GraphParts, out: &mut K) -> Option<Fault>
+pub fn print_summary<K: Sink>(graph: &Graph, out: &mut K) -> Option<Fault>
     ensures printed { (text : List ℕ) × K.grew out.old text out.new
-        × Prints (λ answer whole. (answer ≡ None) × (whole ≡ parts_summary parts.now)) result text }
+        × Prints (λ answer whole. (answer ≡ None) × (whole ≡ graph_summary graph.now)) result text }
     ensures cause { result ≡ Some Fault.PrintFault → Rose (K.write_faults out.old) (K.write_faults out.new) }
 {
-    match write_summary(parts, out) {
+    match write_summary(graph, out) {
         Ok(()) => None,
         Err(WriteFault) => Some(Fault::PrintFault),
     }

@@ -1,4 +1,4 @@
-use Rattle.std.proofs.Common.{List, ℕ, subst}
+use Rattle.std.proofs.Common.{subst}
 use Rattle.std.proofs.lemmas.Result.{on_ok_weaker, on_err_weaker}
 use Rattle.nif_stream.specs.Putting.{HasTaken}
 use Rattle.nif_file.proofs.WholePuts.{can_put, said_text}

@@ -1,4 +1,4 @@
-use Rattle.std.proofs.Common.{◌≡◌, ◌<◌, ℕ, length, ◌++◌, [], List, refl, ap, subst, ◌∙◌, sym, append_assoc, append-nil}
+use Rattle.std.proofs.Common.{◌≡◌, ◌<◌, length, ◌++◌, [], refl, ap, subst, ◌∙◌, sym, append_assoc, append-nil}
 use Rattle.std.proofs.lemmas.Result.{on_ok_weaker, on_err_weaker}
 use Rattle.nif_base.specs.Graph.{Origin}
 use Rattle.nif_base.specs.Node.{text, retargeted}

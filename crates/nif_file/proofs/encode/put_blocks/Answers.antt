@@ -1,4 +1,4 @@
-use Rattle.std.proofs.Common.{◌≡◌, ◌<◌, length, arith}
+use Rattle.std.proofs.Common.{arith}
 use Rattle.nif_file.specs.PartsText.{block_part}
 use Rattle.nif_file.proofs.HeaderPuts.{there_is}
 use Rattle.nif_file.proofs.PartsPuts.{first_none, first_next, first_failed, first_all}

@@ -1,4 +1,4 @@
-use Rattle.std.proofs.Common.{arith, rules}
+use Rattle.std.proofs.Common.{arith}
 use Rattle.nif_stream.specs.PutterLaws.{puts}
 use Rattle.nif_file.proofs.encode.write_graph.Goals as goal
 

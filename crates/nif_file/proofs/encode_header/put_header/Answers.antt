@@ -1,7 +1,6 @@
-use Rattle.std.proofs.Common.{◌≡◌, ◌++◌, ◌≤◌, [], IfSome, refl, ap, subst, sym, ◌∙◌, length, arith, append-nil}
+use Rattle.std.proofs.Common.{◌≡◌, ◌++◌, [], IfSome, ap, subst, ◌∙◌, arith, append-nil}
 use Rattle.std.proofs.lemmas.Result.{on_ok_weaker, on_err_weaker}
 use Rattle.std.specs.Prelude.{codes}
-use Rattle.nif_base.specs.declared.orders.Order.{Order}
 use Rattle.nif_base.specs.declared.orders.Order.TheVariants.{Little}
 use Rattle.nif_base.specs.Graph.{Origin}
 use Rattle.nif_base.specs.Node.{Bytes}
@@ -11,7 +10,7 @@ use Rattle.nif_schema.specs.Roles.{header_fields}
 use Rattle.nif_stream.specs.PutterLaws.{puts_more, fails_more, fails_before}
 use Rattle.nif_value.specs.Trees.{Trees}
 use Rattle.nif_graph.specs.State.{node_at}
-use Rattle.nif_file.specs.PartsText.{WalksHeader, header_part, members_text, up_to, written_header}
+use Rattle.nif_file.specs.PartsText.{WalksHeader, header_part, members_text, written_header}
 use Rattle.nif_file.proofs.HeaderPuts.{begins, header_parts_are}
 use Rattle.nif_file.proofs.HeaderTexts.{up_to_within}
 use Rattle.nif_file.proofs.PartsPuts.{at_node}

@@ -1,9 +1,8 @@
-use Rattle.std.proofs.Common.{◌≡◌, ◌+◌, ◌++◌, ℕ, [], List, None, Some, refl, ap, subst, ◌∙◌, sym}
+use Rattle.std.proofs.Common.{Some, refl, ap, subst, ◌∙◌, sym}
 use Rattle.std.proofs.lemmas.Result.{on_ok_weaker, on_err_weaker}
 use Rattle.nif_stream.specs.Putting.{Puts, Fails}
-use Rattle.nif_encode.specs.declared.steps.Targets.{Targets}
 use Rattle.nif_graph.specs.Written.{is_indexed}
-use Rattle.nif_file.specs.PartsText.{telling_at, members_text, written_header}
+use Rattle.nif_file.specs.PartsText.{telling_at}
 use Rattle.nif_file.proofs.PartsPuts.{puts_none}
 use Rattle.nif_file.proofs.HeaderPuts.{plain_text, told_text, absent_text, none_there, not_absent, never_none, absent_is, none_told, walks_on}
 use Rattle.nif_file.proofs.encode_header.put_member.Goals as goal

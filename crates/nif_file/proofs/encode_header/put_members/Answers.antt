@@ -1,7 +1,5 @@
-use Rattle.std.proofs.Common.{◌≡◌, ◌+◌, ◌++◌, ◌<◌, ◌≤◌, ℕ, [], List, refl, ap, subst, ◌∙◌, sym, arith}
-use Rattle.nif_base.specs.Node.{Members}
-use Rattle.nif_cells.specs.Walks.{count}
-use Rattle.nif_stream.specs.Putting.{Puts, Fails}
+use Rattle.std.proofs.Common.{◌≡◌, ◌+◌, refl, subst, sym, arith}
+use Rattle.nif_stream.specs.Putting.{Puts}
 use Rattle.nif_stream.specs.PutterLaws.{puts_more, fails_more}
 use Rattle.nif_file.specs.PartsText.{WalksHeader, members_text, written_header}
 use Rattle.nif_file.proofs.PartsPuts.{puts_none}

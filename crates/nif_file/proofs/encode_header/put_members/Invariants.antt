@@ -1,4 +1,3 @@
-use Rattle.std.proofs.Common.{ℕ, ◌≡◌}
 use Rattle.nif_base.specs.Node.{Members}
 use Rattle.nif_stream.specs.Putting.{Puts}
 use Rattle.nif_file.specs.PartsText.{WalksHeader, members_text, written_header}

@@ -1,5 +1,4 @@
-use Rattle.std.proofs.Common.{◌≡◌, ◌<◌, ◌∙◌, ℕ, List, IfSome, length, ap, subst, arith}
-use Rattle.std.specs.Prelude.{unwrap_or}
+use Rattle.std.proofs.Common.{◌≡◌, IfSome, subst, arith}
 use Rattle.nif_base.specs.Graph.{Named}
 use Rattle.nif_base.specs.Node.{number, is_little, size}
 use Rattle.nif_cells.specs.Building.{bytes_of}

@@ -1,4 +1,4 @@
-use Rattle.std.proofs.Common.{◌≡◌, ◌<◌, ℕ, List, Some, length, ap, subst, ◌∙◌, arith}
+use Rattle.std.proofs.Common.{subst, arith}
 use Rattle.nif_stream.specs.Putting.{Puts, Fails}
 use Rattle.nif_file.specs.Files.{sized_string}
 use Rattle.nif_file.proofs.PartsPuts.{first_none, first_next, first_failed, first_all}

@@ -1,11 +1,8 @@
-use Rattle.std.proofs.Common.{◌≡◌, ◌<◌, ◌∙◌, ℕ, List, IfSome, length, ap, subst, arith}
+use Rattle.std.proofs.Common.{◌∙◌, ap, subst, arith}
 use Rattle.std.specs.Prelude.{unwrap_or}
 use Rattle.nif_base.specs.Graph.{Named}
-use Rattle.nif_base.specs.Node.{number, is_little, size}
-use Rattle.nif_cells.specs.Building.{bytes_of}
-use Rattle.nif_region.specs.Contents as region
+use Rattle.nif_base.specs.Node.{number, is_little}
 use Rattle.nif_stream.specs.Putting.{Puts, Fails}
-use Rattle.nif_value.specs.Trees.{Trees}
 use Rattle.nif_file.proofs.HeaderPuts.{there_is, entry_text, word_is}
 use Rattle.nif_file.proofs.PartsPuts.{first_none, first_next, first_failed, first_all}
 use Rattle.nif_file.proofs.encode_header.put_words.Goals as goal

@@ -1,7 +1,6 @@
-use Rattle.std.proofs.Common.{ℕ}
 use Rattle.std.specs.Prelude.{unwrap_or}
 use Rattle.nif_base.specs.Graph.{Named}
-use Rattle.nif_base.specs.Node.{number, is_little, size}
+use Rattle.nif_base.specs.Node.{number, is_little}
 use Rattle.nif_file.proofs.PartsPuts.{PutsFirst}
 use Rattle.nif_file.proofs.encode_header.put_words.Given as goal
 

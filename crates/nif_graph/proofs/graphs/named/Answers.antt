@@ -1,6 +1,4 @@
-use Rattle.std.proofs.Common.{◌≡◌, ◌∙◌, ◌++◌, ◌∷◌, [], ap, arith}
-use Rattle.std.specs.Prelude.{take}
-use Rattle.nif_graph.specs.Slots.{slots_from}
+use Rattle.std.proofs.Common.{◌∙◌, ◌++◌, ◌∷◌, [], ap, arith}
 use Rattle.nif_graph.proofs.Keeping.{slots_more}
 use Rattle.nif_graph.proofs.graphs.named.Goals as goal
 

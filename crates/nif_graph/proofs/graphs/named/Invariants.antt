@@ -1,4 +1,4 @@
-use Rattle.std.proofs.Common.{◌≡◌, ◌+◌, ◌-◌, ◌≤◌, length}
+use Rattle.std.proofs.Common.{◌≡◌, ◌+◌, ◌≤◌, length}
 use Rattle.std.specs.Prelude.{take}
 use Rattle.nif_graph.specs.Slots.{slots_from}
 use Rattle.nif_graph.proofs.graphs.named.Given as goal

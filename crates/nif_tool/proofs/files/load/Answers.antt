@@ -12,7 +12,7 @@ returns-in-Ok-decode_file g c =
     let reads = g.met.S.Source.still_counts _ _ still in
     let writes = g.met.S.Shelf.still_writes _ _ still in
     record {
-      loads = loaded c.args.schema.now c.args.name.now (desk c.args.shelf.now) (g.S.Source.left c.open_input.new.self) (g.S.Source.left c.decode_file.new.source) c.in-Ok-decode_file.parts opened.there c.in-Ok-decode_file.ensures.file;
+      loads = loaded c.args.schema.now c.args.name.now (desk c.args.shelf.now) (g.S.Source.left c.open_input.new.self) (g.S.Source.left c.decode_file.new.source) c.in-Ok-decode_file.graph opened.there c.in-Ok-decode_file.ensures.file;
       answers = tt;
       faults = tt;
       files = files_opened (desk c.args.shelf.now) (desk c.open_input.new.self) (desk c.decode_file.new.source) c.args.name.now opened.ok (g.met.S.Shelf.still_desk _ _ still);

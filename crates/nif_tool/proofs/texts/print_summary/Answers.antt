@@ -1,11 +1,11 @@
 use Rattle.std.proofs.Common.{None, take, refl}
 use Rattle.nif_stream.specs.Putting.{HasTaken}
-use Rattle.nif_tool.specs.Steps.{parts_summary}
+use Rattle.nif_tool.specs.Steps.{graph_summary}
 use Rattle.nif_tool.proofs.texts.print_summary.Goals as goal
 
 pub returns-in-Err-clause-printed : goal.returns-in-Err-clause-printed
 unfolding HasTaken
 returns-in-Err-clause-printed g c =
     let part = c.in-Err.ensures.err in
-    let line = parts_summary c.args.parts.now in
+    let line = graph_summary c.args.graph.now in
     (take part.0 line, part.1, (None, line, (λ same. absurd (cc)), (refl, refl), (part.0, refl)))

@@ -1,4 +1,4 @@
-use Rattle.std.proofs.Common.{◌≡◌, sym, ◌∙◌, ap}
+use Rattle.std.proofs.Common.{sym, ◌∙◌, ap}
 use Rattle.nif_graph.specs.State.{GraphState, node_at}
 use Rattle.nif_graph.specs.Written.{untold, is_indexed}
 use Rattle.nif_graph.specs.WrittenLaws.{indexed_told}

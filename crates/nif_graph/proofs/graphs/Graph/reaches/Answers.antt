@@ -1,10 +1,9 @@
-use Rattle.std.proofs.Common.{◌≡◌, ◌<◌, true, Some, length, map, refl, sym, ap, subst, arith}
+use Rattle.std.proofs.Common.{◌≡◌, ◌<◌, true, Some, length, refl, sym, subst, arith}
 use Rattle.std.specs.Prelude.{slice_get}
 use Rattle.std.proofs.lemmas.Option.{slice_get_read}
 use Rattle.nif_graph.specs.Graph.{is_live}
 use Rattle.nif_graph.specs.Reach.{Reaches}
 use Rattle.nif_graph.specs.State.{GraphState, origin_of}
-use Rattle.nif_graph.specs.Kept.{named_in}
 use Rattle.nif_graph.proofs.Keeping.{slots_live, kept_aimed}
 use Rattle.nif_graph.proofs.graphs.Graph.reaches.Goals as goal
 

@@ -1,6 +1,5 @@
-use Rattle.std.proofs.Common.{◌≡◌, true, Some}
+use Rattle.std.proofs.Common.{Some}
 use Rattle.nif_value.specs.Trees.{reference_of}
-use Rattle.nif_graph.specs.Graph.{is_live}
 use Rattle.nif_graph.proofs.Reading.{has_place, may_ask, told, asked_lives, target_lives}
 use Rattle.nif_graph.proofs.graphs.Graph.ref_at.Goals as goal
 

@@ -1,4 +1,4 @@
-use Rattle.std.proofs.Common.{◌≡◌, ◌∙◌, ap}
+use Rattle.std.proofs.Common.{◌∙◌, ap}
 use Rattle.nif_graph.specs.State.{GraphState, origin_of}
 use Rattle.nif_graph.proofs.Keeping.{restored, same_graph}
 use Rattle.nif_graph.proofs.graphs.Graph.reserve.Goals as goal

@@ -1,4 +1,4 @@
-use Rattle.std.proofs.Common.{◌≡◌, refl, arith, ap, length}
+use Rattle.std.proofs.Common.{refl, arith, ap, length}
 use Rattle.nif_graph.specs.State.{origin_of}
 use Rattle.nif_graph.proofs.Keeping.{roomier}
 use Rattle.nif_graph.proofs.graphs.Graph.reserve_blocks.Goals as goal

@@ -1,6 +1,5 @@
-use Rattle.std.proofs.Common.{◌≡◌, length, subst, ap, ◌∙◌, sym, Some, IfSome}
+use Rattle.std.proofs.Common.{◌≡◌, length, subst, IfSome}
 use Rattle.nif_base.specs.Node.{refs}
-use Rattle.nif_graph.specs.State.{GraphState}
 use Rattle.nif_graph.proofs.Reading.{foot_live, footer_is}
 use Rattle.nif_graph.proofs.graphs.Graph.root_count.Goals as goal
 

@@ -1,4 +1,4 @@
-use Rattle.std.proofs.Common.{◌≡◌, ◌<◌, ◌∙◌, ℕ, false, arith, refl, length, ap, length-set}
+use Rattle.std.proofs.Common.{◌∙◌, false, arith, refl, length-set}
 use Rattle.nif_graph.proofs.Marking.{clear_more, all_clear}
 use Rattle.nif_graph.proofs.marks.Marks.clear.Goals as goal
 

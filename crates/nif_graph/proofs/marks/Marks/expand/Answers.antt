@@ -1,7 +1,7 @@
-use Rattle.std.proofs.Common.{◌≡◌, ◌<◌, ℕ, true, Some, IfSome, length, sym, ◌∙◌, subst, arith}
+use Rattle.std.proofs.Common.{◌≡◌, ◌<◌, ℕ, Some, IfSome, length, sym, ◌∙◌, subst, arith}
 use Rattle.std.specs.Prelude.{slice_get}
 use Rattle.std.proofs.lemmas.Option.{slice_get_within}
-use Rattle.nif_base.specs.Node.{Node, Reference, refs}
+use Rattle.nif_base.specs.Node.{Reference, refs}
 use Rattle.nif_value.specs.Trees.{Trees, IsLive, reference_of}
 use Rattle.nif_value.specs.declared.stores.TreeId.{TreeId}
 use Rattle.nif_region.specs.Contents.{find}

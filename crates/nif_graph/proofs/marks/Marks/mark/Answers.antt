@@ -1,4 +1,4 @@
-use Rattle.std.proofs.Common.{◌≡◌, inr, false, Some, length, refl, ap, ◌∙◌, arith}
+use Rattle.std.proofs.Common.{◌≡◌, inr, Some, length, refl, ap, ◌∙◌, arith}
 use Rattle.std.specs.Prelude.{slice_get}
 use Rattle.std.proofs.lemmas.Option.{slice_get_read}
 use Rattle.nif_graph.proofs.Marking.{unmarked_set}

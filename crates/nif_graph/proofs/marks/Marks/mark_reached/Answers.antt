@@ -1,9 +1,7 @@
-use Rattle.std.proofs.Common.{◌≡◌, ◌<◌, ◌∙◌, ℕ, true, Some, List, [], map, length, refl, subst, arith}
+use Rattle.std.proofs.Common.{◌≡◌, ◌∙◌, Some, map, length, refl, subst, arith}
 use Rattle.std.specs.Prelude.{slice_get}
 use Rattle.std.proofs.lemmas.Option.{slice_get_read}
 use Rattle.nif_base.specs.Node.{refs}
-use Rattle.nif_graph.specs.Graph.{is_live}
-use Rattle.nif_graph.specs.State.{node_at}
 use Rattle.nif_graph.specs.Kept.{named_in}
 use Rattle.nif_graph.specs.Marks.{IsExpanded}
 use Rattle.nif_graph.proofs.Keeping.{placed, found_slot, slot_lives, strong_lives}

@@ -1,7 +1,6 @@
 use Rattle.std.proofs.Common.{◌≡◌, Some, sym, ◌∙◌, ap}
 use Rattle.std.proofs.lemmas.Option.{slice_get_within}
 use Rattle.std.specs.Prelude.{unwrap_or}
-use Rattle.nif_graph.specs.declared.slots.Slot.{Slot}
 use Rattle.nif_graph.proofs.Tables.{slot_at}
 use Rattle.nif_graph.proofs.slots.Slots.find.Goals as goal
 
