@@ -22,6 +22,7 @@ pub mod Counting
 pub mod Targets
 pub mod Telling
 pub mod Again
+pub mod Declared
 pub mod HeaderEnds
 pub mod LineReading
 pub mod Noting

@@ -4,6 +4,7 @@ use Rattle.std.specs.declared.option.Option.{Option}
 use Rattle.nif_base.specs.Node.{Reference}
 use Rattle.nif_base.specs.Graph.{Origin}
 use Rattle.nif_graph.specs.Graph.{reference}
+use Rattle.nif_graph.specs.Reach.{DeclaresTypes}
 use Rattle.nif_graph.specs.Written.{graph_of, is_indexed, numbered}
 use Rattle.nif_graph.specs.declared.places.RolePlaces.{RolePlaces}
 use Rattle.nif_file.specs.GraphOf.{types_in}
@@ -62,3 +63,9 @@ abbrev pub IndexedAlike : Schema → Type 0
 IndexedAlike S =
     (F : File) (bytes : List ℕ) → IsFile S F bytes → (places : RolePlaces) → ArePlaces S places
     → is_indexed places F.header ≡ is_some (member (codes "Block Type Index") (head_in S F))
+
+-- and the schema declares the types of its blocks, and those that its references want
+abbrev pub TypesDeclared : Schema → Type 0
+TypesDeclared S =
+    (F : File) (bytes : List ℕ) → IsFile S F bytes → (places : RolePlaces) (origin : Origin) (types : List (List ℕ))
+    → DeclaresTypes S (graph_of places origin types F)

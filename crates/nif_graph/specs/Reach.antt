@@ -1,11 +1,11 @@
 -- What leads where in a graph, and which references are of the wanted type.
-use Rattle.std.specs.Prelude.{ℕ, ◌≡◌, Bool, true, List, None, Some, slice_get, option_and_then}
+use Rattle.std.specs.Prelude.{ℕ, ◌≡◌, ◌<◌, Bool, true, List, length, None, Some, slice_get, option_and_then}
 use Rattle.std.specs.declared.option.Option.{Option}
 use Rattle.nif_base.specs.Node.{Reference, refs}
 use Rattle.nif_base.specs.File.{Block}
 use Rattle.nif_base.specs.Graph.{Named, Graph}
 use Rattle.nif_schema.specs.Schema.{Schema, is_a}
-use Rattle.nif_graph.specs.Graph.{find, kind_of}
+use Rattle.nif_graph.specs.Graph.{find, kind_of, reference}
 
 -- a walk of zero or more steps
 pub data Walk (Step : ℕ → ℕ → Type 0) : ℕ → ℕ → Type 0 where
@@ -31,3 +31,9 @@ is_wanted S (Some wanted) (Some found) = is_a S found wanted
 -- A reference is well typed where it is empty, wants any type, or its target is of the type that it wants.
 abbrev pub well_typed : Schema → Graph → Reference → Bool
 well_typed S G r = is_wanted S r.wanted (option_and_then (kind_of G) r.target)
+
+-- A schema declares the types of the blocks, and those that references want.
+pub record DeclaresTypes (S : Schema) (G : Graph) : Type 0 where
+  pub kinds : (name kind : ℕ) → kind_of G name ≡ Some kind → kind < length S
+  pub wanted : (from : Option ℕ) (k : ℕ) (r : Reference) (wanted : ℕ) → reference G from k ≡ Some r
+      → r.wanted ≡ Some wanted → wanted < length S

@@ -1,2 +1,4 @@
 pub mod Lines
 pub mod Quoting
+pub mod Numbered
+pub mod Referring

@@ -13,9 +13,10 @@ use Rattle.nif_file.specs.Head.{version_in}
 use Rattle.nif_file.specs.GraphOf.{IsWhole, origin_in}
 use Rattle.nif_file.specs.LengthLaws.{size_is_length}
 use Rattle.nif_print.specs.Files.{summary_text}
+use Rattle.nif_print.specs.References.{refs_text}
 use Rattle.nif_tool.specs.Command.{SchemaName}
 use Rattle.nif_tool.specs.Schemas.{HasSchema}
-use Rattle.nif_tool.specs.Meaning.{files_of, Accepts, Checks, IsLineBy, WhereTold, summary_of}
+use Rattle.nif_tool.specs.Meaning.{files_of, Accepts, AreLinesBy, Checks, IsLineBy, IsRefsText, Refers, WhereTold, summary_of}
 use Rattle.nif_tool.specs.Steps.{CopiesBy, IsAccepted, IsLoaded, Stores, graph_summary}
 use Rattle.nif_tool.specs.declared.files.Accepted.{Accepted}
 use Rattle.nif_tool.specs.declared.report.Fault.{Fault}
@@ -86,6 +87,25 @@ line_by name file old accepted is = (
   (is.schema, is.told),
   is.loaded.is,
   summary_said accepted.schema file old accepted.graph is.loaded,
+)
+
+-- the references of its graph
+pub refers_as : (name : SchemaName) (file : List ℕ) (old : Option Files) (accepted : Accepted) (text : List ℕ) → IsAccepted name file old accepted
+    → text ≡ refs_text accepted.schema accepted.graph.graph → IfSome old (λ d. Refers name file d None text)
+refers_as name file None accepted text is same = tt
+refers_as name file (Some d) accepted text is same =
+    accepted_as name file d accepted.schema is.loaded.whole (λ schema whole bytes. IsRefsText schema whole text) is.passes is.loaded.told is.loaded.is
+    (accepted.graph, is.loaded.graph, same)
+
+pub lines_by : (name : SchemaName) (file : List ℕ) (old : Option Files) (accepted : Accepted) (text : List ℕ) → IsAccepted name file old accepted
+    → text ≡ refs_text accepted.schema accepted.graph.graph → AreLinesBy name old text
+lines_by name file old accepted text is same = (
+  accepted.schema,
+  is.loaded.whole,
+  text_of accepted.schema is.loaded.whole,
+  (is.schema, is.told),
+  is.loaded.is,
+  (accepted.graph, is.loaded.graph, same),
 )
 
 -- the bytes that are written of its graph

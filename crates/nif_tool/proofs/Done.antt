@@ -18,7 +18,7 @@ use Rattle.nif_file.specs.FileFails.{FileFails}
 use Rattle.nif_file.specs.FileLaws.{FileOrFault}
 use Rattle.nif_file.specs.declared.faults.FileFault.{FileFault}
 use Rattle.nif_tool.specs.Counts.{Counts}
-use Rattle.nif_tool.specs.Command.{Command, SchemaName, Plain, Scene, Named, Check, Copy}
+use Rattle.nif_tool.specs.Command.{Command, SchemaName, Plain, Scene, Named, Check, Refs, Copy}
 use Rattle.nif_tool.specs.Command as command
 use Rattle.nif_tool.specs.Schemas.{Passes, Refuses, Spells, schema_bytes, told_bytes}
 use Rattle.nif_tool.specs.Meaning.{Accepts, Answers, CanBeDone, Copies, DoneOnly, FileIs, HasCauses, IsDone, Lists, NoneRose, Prints, Refused}
@@ -120,20 +120,26 @@ done_only laws c files new (Some fault.ReadFault) text before after can says cau
 done_only laws c files new (Some fault.WriteFault) text before after can says causes none = absurd (none.writing (causes.writing refl))
 done_only laws (command.Schema name) files new (Some fault.Usage) text before after can says causes none = absurd says.0
 done_only laws (Check name file) files new (Some fault.Usage) text before after can says causes none = absurd says.0
+done_only laws (Refs name file) files new (Some fault.Usage) text before after can says causes none = absurd says.0
 done_only laws (Copy name file copy) files new (Some fault.Usage) text before after can says causes none =
     absurd (no_refusal fault.Usage fault.WriteFault (λ e. cc) says.0)
 done_only laws (command.Schema name) files new (Some fault.PrintFault) text before after can says causes none = absurd says.0
 done_only laws (Check name file) files new (Some fault.PrintFault) text before after can says causes none = absurd says.0
+done_only laws (Refs name file) files new (Some fault.PrintFault) text before after can says causes none = absurd says.0
 done_only laws (Copy name file copy) files new (Some fault.PrintFault) text before after can says causes none =
     absurd (no_refusal fault.PrintFault fault.WriteFault (λ e. cc) says.0)
 done_only laws (command.Schema name) files new (Some (fault.Schema r)) text before after can says causes none =
     absurd (schema_only laws (schema_bytes name files) can.0 r can.1 (told_as name files (λ b. Lists b (Some (fault.Schema r)) text) says.1.0))
 done_only laws (Check name file) files new (Some (fault.Schema r)) text before after can says causes none =
     absurd (accepted_schema laws name file files r can says.1.0)
+done_only laws (Refs name file) files new (Some (fault.Schema r)) text before after can says causes none =
+    absurd (accepted_schema laws name file files r can says.1.0)
 done_only laws (Copy name file copy) files new (Some (fault.Schema r)) text before after can says causes none =
     absurd (accepted_schema laws name file files r can (copy_refused_as name file copy files new r text says.1))
 done_only laws (command.Schema name) files new (Some (fault.File r)) text before after can says causes none = absurd says.0
 done_only laws (Check name file) files new (Some (fault.File r)) text before after can says causes none =
+    absurd (accepted_file laws name file files r can says.1.0)
+done_only laws (Refs name file) files new (Some (fault.File r)) text before after can says causes none =
     absurd (accepted_file laws name file files r can says.1.0)
 done_only laws (Copy name file copy) files new (Some (fault.File r)) text before after can says causes none =
     absurd (accepted_file laws name file files r can (copy_failed_as name file copy files new r text says.1))

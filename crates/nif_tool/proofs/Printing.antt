@@ -3,7 +3,7 @@ use Rattle.std.proofs.Common.{◌≡◌, ℕ, List, Option, Some, None, refl, sy
 use Rattle.std.specs.Option.{IfSome}
 use Rattle.nif_base.specs.Shelf.{Files}
 use Rattle.nif_tool.specs.Counts.{Counts}
-use Rattle.nif_tool.specs.Command.{SchemaName, Check, Copy}
+use Rattle.nif_tool.specs.Command.{SchemaName, Check, Refs, Copy}
 use Rattle.nif_tool.specs.Command as command
 use Rattle.nif_schema.specs.Schema.{Schema, IsSchema}
 use Rattle.nif_print.specs.Listing.{IsListing}
@@ -14,7 +14,8 @@ use Rattle.nif_tool.specs.Meaning.{Answers, CanAnswer, CanFail, CanLack, Checks,
 use Rattle.nif_tool.specs.declared.files.Accepted.{Accepted}
 use Rattle.nif_tool.specs.declared.report.Fault.{Fault}
 use Rattle.nif_tool.specs.declared.report.Fault.TheVariants as fault
-use Rattle.nif_tool.proofs.Copies.{checked_as, line_by}
+use Rattle.nif_print.specs.References.{refs_text}
+use Rattle.nif_tool.proofs.Copies.{checked_as, line_by, lines_by, refers_as}
 
 -- what holds of an answer and its text may be weaker
 pub prints_weaker : {P Q : Option Fault → List ℕ → Type 0} (answer : Option Fault) (text : List ℕ) → ((a : Option Fault) (t : List ℕ) → P a t → Q a t) → Prints P answer text → Prints Q answer text
@@ -91,6 +92,22 @@ pub check_refused : (name : SchemaName) (file : List ℕ) (old new : Option File
     → (answer ≡ Some refusal) × (text ≡ line_of refusal) → Answers (Some (Check name file)) old new answer text × HasCauses answer before after
 check_refused name file old new refusal before after answer text can refused same causes is =
     subst (λ a. Answers (Some (Check name file)) old new a text × HasCauses a before after) (sym is.0)
+    ((can, (refused, same), is.1, tt), causes)
+
+-- the references of a file that was read
+pub refs_done : (name : SchemaName) (file : List ℕ) (old new : Option Files) (accepted : Accepted) (before after : Counts) (answer : Option Fault) (text : List ℕ)
+    → IsAccepted name file old accepted → new ≡ old → HasCauses None before after
+    → (answer ≡ None) × (text ≡ refs_text accepted.schema accepted.graph.graph) → Answers (Some (Refs name file)) old new answer text × HasCauses answer before after
+refs_done name file old new accepted before after answer text accepts same causes is =
+    subst (λ a. Answers (Some (Refs name file)) old new a text × HasCauses a before after) (sym is.0)
+    ((tt, (refers_as name file old accepted text accepts is.1, same), tt, lines_by name file old accepted text accepts is.1), causes)
+
+-- a file whose references were refused
+pub refs_refused : (name : SchemaName) (file : List ℕ) (old new : Option Files) (refusal : Fault) (before after : Counts) (answer : Option Fault) (text : List ℕ)
+    → CanFail refusal → IfSome old (λ d. Refused name file d refusal) → new ≡ old → HasCauses (Some refusal) before after
+    → (answer ≡ Some refusal) × (text ≡ line_of refusal) → Answers (Some (Refs name file)) old new answer text × HasCauses answer before after
+refs_refused name file old new refusal before after answer text can refused same causes is =
+    subst (λ a. Answers (Some (Refs name file)) old new a text × HasCauses a before after) (sym is.0)
     ((can, (refused, same), is.1, tt), causes)
 
 -- a file that was copied

@@ -1,4 +1,4 @@
--- The command that the words spell: `schema S`, `check S F` or `copy S F OUT`.
+-- The command that the words spell: `schema S`, `check S F`, `refs S F` or `copy S F OUT`.
 use Rattle.std.specs.Prelude.{ℕ, List, [], ◌∷◌, None, Some, if◌then◌else◌, string_bytes, String, codes}
 use Rattle.std.specs.Str.{bytes_eq}
 use Rattle.std.specs.declared.option.Option.{Option}
@@ -19,14 +19,17 @@ schema_named word =
 pub data Command : Type 0 where
   Schema : (schema : SchemaName) → Command
   Check : (schema : SchemaName) → (file : List ℕ) → Command
+  Refs : (schema : SchemaName) → (file : List ℕ) → Command
   Copy : (schema : SchemaName) → (file copy : List ℕ) → Command
 
 abbrev pub command_of : List (String Global) → Option Command
 command_of (verb ∷ schema ∷ []) =
     if bytes_eq (string_bytes verb) (codes "schema") then Some (Schema (schema_named (string_bytes schema))) else None
 command_of (verb ∷ schema ∷ file ∷ []) =
-    if bytes_eq (string_bytes verb) (codes "check") then Some
-    (Check (schema_named (string_bytes schema)) (string_bytes file)) else None
+    if bytes_eq (string_bytes verb) (codes "check")
+    then Some (Check (schema_named (string_bytes schema)) (string_bytes file))
+    else if bytes_eq (string_bytes verb) (codes "refs")
+    then Some (Refs (schema_named (string_bytes schema)) (string_bytes file)) else None
 command_of (verb ∷ schema ∷ file ∷ copy ∷ []) =
     if bytes_eq (string_bytes verb) (codes "copy")
     then Some (Copy (schema_named (string_bytes schema)) (string_bytes file) (string_bytes copy)) else None

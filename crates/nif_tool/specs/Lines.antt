@@ -6,7 +6,7 @@ use Rattle.nif_tool.specs.declared.report.Fault.{Fault}
 use Rattle.nif_tool.specs.declared.report.Fault.TheVariants as fault
 
 abbrev pub fault_text : Fault → List ℕ
-fault_text fault.Usage = codes "usage: schema S | check S F | copy S F OUT"
+fault_text fault.Usage = codes "usage: schema S | check S F | refs S F | copy S F OUT"
 fault_text (fault.Schema refusal) = schema_fault_text refusal
 fault_text (fault.File refusal) = file_fault_text refusal
 fault_text fault.OpenFault = codes "open fault"

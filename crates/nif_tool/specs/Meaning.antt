@@ -17,7 +17,10 @@ use Rattle.nif_file.specs.Head.{version_in}
 use Rattle.nif_file.specs.declared.faults.FileFault.TheVariants as file_faults
 use Rattle.nif_print.specs.Files.{summary_text}
 use Rattle.nif_print.specs.Listing.{IsListing}
-use Rattle.nif_tool.specs.Command.{Command, SchemaName, Named, Check, Copy}
+use Rattle.nif_print.specs.References.{refs_text}
+use Rattle.nif_graph.specs.State.{GraphState}
+use Rattle.nif_file.specs.GraphOf.{IsGraphOf}
+use Rattle.nif_tool.specs.Command.{Command, SchemaName, Named, Check, Refs, Copy}
 use Rattle.nif_tool.specs.Command as command
 use Rattle.nif_tool.specs.Counts.{Counts, counts}
 use Rattle.nif_tool.specs.Schemas.{HasSchema, Passes, Refuses, schema_bytes, told_bytes}
@@ -54,6 +57,7 @@ abbrev pub CanAnswer : Command → Option Fault → Type 0
 CanAnswer c None = ⊤
 CanAnswer (command.Schema name) (Some refusal) = CanLack name refusal
 CanAnswer (Check name file) (Some refusal) = CanFail refusal
+CanAnswer (Refs name file) (Some refusal) = CanFail refusal
 CanAnswer (Copy name file copy) (Some refusal) = (refusal ≡ fault.WriteFault) ⊎ CanFail refusal
 
 -- ---- what they say of the files
@@ -95,6 +99,16 @@ abbrev pub Checks : SchemaName → List ℕ → Files → Option Fault → List 
 Checks name file files None text = Accepts name file files (λ schema whole bytes. text ≡ summary_of schema whole bytes)
 Checks name file files (Some refusal) text = Refused name file files refusal
 
+-- the lines that are printed of the references in the graph of a file
+abbrev pub IsRefsText : Schema → File → List ℕ → Type 0
+IsRefsText schema whole text =
+    (state : GraphState) × IsGraphOf schema whole state × (text ≡ refs_text schema state.graph)
+
+-- What an answer to `refs S F` says: the same as one to `check S F`, with the lines of the references for the text.
+abbrev pub Refers : SchemaName → List ℕ → Files → Option Fault → List ℕ → Type 0
+Refers name file files None text = Accepts name file files (λ schema whole bytes. IsRefsText schema whole text)
+Refers name file files (Some refusal) text = Refused name file files refusal
+
 -- What an answer to `copy S F OUT` says of the files before and after, and of the text. Done: the file is accepted, its
 -- line is printed, and its bytes are those of the copy, which alone is new. A fault of writing: the file is accepted,
 -- and the copy has a prefix of its bytes. After each other answer no file has changed.
@@ -118,6 +132,7 @@ abbrev pub Does : Command → Option Files → Option Files → Option Fault →
 Does (command.Schema name) old new answer text = IfSome (told_bytes name old) (λ bytes. Lists bytes answer text)
     × (new ≡ old)
 Does (Check name file) old new answer text = IfSome old (λ d. Checks name file d answer text) × (new ≡ old)
+Does (Refs name file) old new answer text = IfSome old (λ d. Refers name file d answer text) × (new ≡ old)
 Does (Copy name file copy) old new answer text = WhereTold old new (λ d e. Copies name file copy d e answer text)
 
 -- a schema of this name: it passes where its bytes are told, as those of a built-in schema always are
@@ -131,12 +146,19 @@ IsLineBy name files text =
     (schema : Schema) × (whole : File) × (bytes : List ℕ) × IsOfName name files schema × IsFile schema whole bytes
     × (text ≡ summary_of schema whole bytes)
 
+-- the lines of the references of some file by some schema of this name
+abbrev pub AreLinesBy : SchemaName → Option Files → List ℕ → Type 0
+AreLinesBy name files text =
+    (schema : Schema) × (whole : File) × (bytes : List ℕ) × IsOfName name files schema × IsFile schema whole bytes
+    × IsRefsText schema whole text
+
 -- What Done says of the text wherever nothing is told of the files, too: it is the listing of some schema, or the line
--- of some file. (Which file that is, `Does` says, where the files are told.)
+-- or the references of some file. (Which file that is, `Does` says, where the files are told.)
 abbrev pub PrintsDone : Command → Option Files → Option Fault → List ℕ → Type 0
 PrintsDone (command.Schema name) files None text = (schema : Schema) × IsOfName name files schema
     × IsListing schema text
 PrintsDone (Check name file) files None text = IsLineBy name files text
+PrintsDone (Refs name file) files None text = AreLinesBy name files text
 PrintsDone (Copy name file copy) files None text = IsLineBy name files text
 PrintsDone c files (Some refusal) text = ⊤
 
@@ -187,6 +209,7 @@ IsInput schema file files name = IsFileOf schema name
 abbrev pub IsAsked : Command → Option Files → Kind → List ℕ → Type 0
 IsAsked (command.Schema schema) files Input name = IsFileOf schema name
 IsAsked (Check schema file) files Input name = IsInput schema file files name
+IsAsked (Refs schema file) files Input name = IsInput schema file files name
 IsAsked (Copy schema file copy) files Input name = IsInput schema file files name
 IsAsked (Copy schema file copy) files Output name = (name ≡ copy)
     × IfSome files (λ d. Accepts schema file d (λ passed whole bytes. ⊤))
@@ -208,6 +231,7 @@ ReadFrom c files answer desk = answer ≡ Some fault.ReadFault
 abbrev pub CanBeDone : Command → Files → Type 0
 CanBeDone (command.Schema name) files = (schema : Schema) × HasSchema name files schema
 CanBeDone (Check name file) files = Accepts name file files (λ schema whole bytes. AreBytes bytes)
+CanBeDone (Refs name file) files = Accepts name file files (λ schema whole bytes. AreBytes bytes)
 CanBeDone (Copy name file copy) files = Accepts name file files (λ schema whole bytes. AreBytes bytes)
 
 -- no count of faults of a shelf rose

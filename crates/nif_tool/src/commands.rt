@@ -2,7 +2,7 @@
 ghost use Rattle.std.specs.Prelude.{◌≡◌, ◌≢◌, ℕ, List, None, Some, IfSome, IsSomeAnd};
 ghost use Rattle.nif_base.specs.Outside.{Rose};
 ghost use Rattle.nif_tool.specs.Report.{status_of};
-ghost use Rattle.nif_tool.specs.Command.{command_of, Check, Copy};
+ghost use Rattle.nif_tool.specs.Command.{command_of, Check, Refs, Copy};
 ghost use Rattle.nif_tool.specs.Command as spec_command;
 ghost use Rattle.nif_tool.specs.Words.{schema_name};
 ghost use Rattle.nif_tool.specs.Counts.{counts};
@@ -13,9 +13,10 @@ use crate::laws::done_only;
 use crate::lines::refuse;
 use crate::report::{Fault, Report};
 use crate::schemas::get_schema;
-use crate::texts::{print_list, print_summary};
+use crate::texts::{print_list, print_refs, print_summary};
 use crate::words::{SchemaName, Words, read_words};
 use nif_base::{Shelf, Sink};
+use nif_file::laws::graph_of_file;
 use std::alloc::Global;
 
 /// Runs `schema S`.
@@ -67,6 +68,32 @@ fn check_command<S: Shelf, K: Sink>(
     }
 }
 
+/// Runs `refs S F`.
+fn refs_command<S: Shelf, K: Sink>(
+    alloc: Global,
+    schema: SchemaName<'_>,
+    file: &str,
+    shelf: &mut S,
+    out: &mut K,
+) -> Option<Fault>
+    ensures answer { (text : List ℕ) × K.grew out.old text out.new
+        × Prints (λ answer whole. Answers (Some (Refs (schema_name schema.entry) file.now))
+        (files_of (S.desk shelf.old)) (files_of (S.desk shelf.new)) answer whole
+        × Causes S.open_faults S.read_faults S.write_faults shelf.old shelf.new answer) result text }
+    ensures usage { result ≢ Some Fault.Usage }
+    ensures print_cause { result ≡ Some Fault.PrintFault → Rose (K.write_faults out.old) (K.write_faults out.new) }
+    ensures read { ReadFrom (Refs (schema_name schema.entry) file.now) (files_of (S.desk shelf.old)) result
+        (S.desk shelf.new) }
+    ensures refused { RefusedFor (Refs (schema_name schema.entry) file.now) (files_of (S.desk shelf.old)) result
+        (S.refused shelf.new) }
+{
+    graph_of_file();
+    match accept(alloc, schema, file, shelf) {
+        Ok(accepted) => print_refs(&accepted.schema, &accepted.graph, out),
+        Err(fault) => refuse(fault, out),
+    }
+}
+
 /// Runs `copy S F OUT`.
 fn copy_command<S: Shelf, K: Sink>(
     alloc: Global,
@@ -94,7 +121,8 @@ fn copy_command<S: Shelf, K: Sink>(
 }
 
 /// Runs the command that the words spell, prints its text or the line of its refusal to `out`, and reports how it
-/// ended. There are `schema S`, `check S F` and `copy S F OUT`, where S is `plain`, `scene` or a file's name.
+/// ended. There are `schema S`, `check S F`, `refs S F` and `copy S F OUT`, where S is `plain`,
+/// `scene` or a file's name.
 ///
 /// The order of work is: words; the schema opened, read and checked; the file opened and read by it; the copy created
 /// and written; the text printed.
@@ -131,6 +159,9 @@ pub fn run<S: Shelf, K: Sink>(alloc: Global, words: &[String], shelf: &mut S, ou
         None => Report::of(refuse(Fault::Usage, out)),
         Some(Words::Schema { schema }) => Report::of(schema_command(alloc, schema, shelf, out)),
         Some(Words::Check { schema, file }) => Report::of(check_command(
+            alloc, schema, file, shelf, out,
+        )),
+        Some(Words::Refs { schema, file }) => Report::of(refs_command(
             alloc, schema, file, shelf, out,
         )),
         Some(Words::Copy { schema, file, copy }) => Report::of(copy_command(

@@ -19,7 +19,7 @@ fn put_text<K: Sink>(fault: &Fault, out: &mut Putter<'_, K>) -> Result<(), Write
     match fault {
         Fault::Schema { fault } => put_schema_fault(fault, out),
         Fault::File { fault } => put_file_fault(fault, out),
-        Fault::Usage => out.put(b"usage: schema S | check S F | copy S F OUT"),
+        Fault::Usage => out.put(b"usage: schema S | check S F | refs S F | copy S F OUT"),
         Fault::OpenFault => out.put(b"open fault"),
         Fault::ReadFault => out.put(b"read fault"),
         Fault::WriteFault => out.put(b"write fault"),

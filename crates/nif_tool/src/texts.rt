@@ -3,6 +3,8 @@ ghost use Rattle.std.specs.Prelude.{◌≡◌, ℕ, List, None, Some, OnOk, OnEr
 ghost use Rattle.nif_stream.specs.Putting.{HasTaken};
 ghost use Rattle.nif_base.specs.Outside.{HasCause, Rose};
 ghost use Rattle.nif_print.specs.Listing.{IsListing};
+ghost use Rattle.nif_print.specs.References.{refs_text};
+ghost use Rattle.nif_graph.specs.Reach.{DeclaresTypes};
 ghost use Rattle.nif_tool.specs.Meaning.{Prints};
 ghost use Rattle.nif_tool.specs.Steps.{graph_summary};
 
@@ -10,7 +12,7 @@ use crate::report::Fault;
 use nif_base::{Sink, WriteFault};
 use nif_check::Checked;
 use nif_graph::Graph;
-use nif_print::{put_summary, schema_list};
+use nif_print::{put_summary, refs, schema_list};
 use nif_stream::Putter;
 
 /// Writes the listing of a schema.
@@ -68,6 +70,35 @@ pub fn print_summary<K: Sink>(graph: &Graph, out: &mut K) -> Option<Fault>
     ensures cause { result ≡ Some Fault.PrintFault → Rose (K.write_faults out.old) (K.write_faults out.new) }
 {
     match write_summary(graph, out) {
+        Ok(()) => None,
+        Err(WriteFault) => Some(Fault::PrintFault),
+    }
+}
+
+/// Writes the lines of the references of a file.
+#[tactic(auto, using(nif_stream::specs::PutterLaws::puts))]
+fn write_refs<K: Sink>(checked: &Checked, graph: &Graph, out: &mut K) -> Result<(), WriteFault>
+    requires { DeclaresTypes checked.now graph.now.graph }
+    ensures ok { OnOk result (K.grew out.old (refs_text checked.now graph.now.graph) out.new) }
+    ensures err { OnErr result (HasTaken K.grew out.old out.new (refs_text checked.now graph.now.graph)) }
+    ensures cause { HasCause (K.write_faults out.old) (K.write_faults out.new) result }
+{
+    let mut putter = Putter::new(out);
+    match refs(checked, graph, &mut putter) {
+        Ok(()) => {}
+        Err(WriteFault) => return Err(WriteFault),
+    }
+    putter.finish()
+}
+
+/// Prints the lines of the references of a file; where that fails, a prefix of them was printed. It takes no memory.
+pub fn print_refs<K: Sink>(checked: &Checked, graph: &Graph, out: &mut K) -> Option<Fault>
+    requires { DeclaresTypes checked.now graph.now.graph }
+    ensures printed { (text : List ℕ) × K.grew out.old text out.new
+        × Prints (λ answer whole. (answer ≡ None) × (whole ≡ refs_text checked.now graph.now.graph)) result text }
+    ensures cause { result ≡ Some Fault.PrintFault → Rose (K.write_faults out.old) (K.write_faults out.new) }
+{
+    match write_refs(checked, graph, out) {
         Ok(()) => None,
         Err(WriteFault) => Some(Fault::PrintFault),
     }

@@ -27,6 +27,11 @@ pub enum Words<'a> {
         schema: SchemaName<'a>,
         file: &'a str,
     },
+    /// `refs S F`
+    Refs {
+        schema: SchemaName<'a>,
+        file: &'a str,
+    },
     /// `copy S F OUT`
     Copy {
         schema: SchemaName<'a>,
@@ -65,6 +70,11 @@ pub fn read_words(words: &[String]) -> Option<Words<'_>>
         [verb, schema, file] => {
             if verb.as_str() == "check" {
                 Some(Words::Check {
+                    schema: read_schema_name(schema.as_str()),
+                    file: file.as_str(),
+                })
+            } else if verb.as_str() == "refs" {
+                Some(Words::Refs {
                     schema: read_schema_name(schema.as_str()),
                     file: file.as_str(),
                 })

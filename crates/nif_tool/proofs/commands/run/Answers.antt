@@ -1,6 +1,6 @@
 use Rattle.std.proofs.Common.{◌≡◌, ℕ, List, Option, Some, subst, sym}
 use Rattle.std.specs.Option.{IsSomeAnd}
-use Rattle.nif_tool.specs.Command.{command_of, Command, Check, Copy}
+use Rattle.nif_tool.specs.Command.{command_of, Command, Check, Refs, Copy}
 use Rattle.nif_tool.specs.Command as spec_command
 use Rattle.nif_tool.specs.Counts.{Counts, counts}
 use Rattle.nif_tool.specs.Words.{schema_name}
@@ -44,6 +44,17 @@ returns-in-Some-Check-clause-complete g c = λ can none calm.
     subst IsDone (sym c.of-in-Some-Check.ensures.fault)
     (completes asked old (files_of (desk c.check_command.new.shelf)) c.check_command.result printed.0 _ _ (c.done_only.ensures asked)
     (subst (λ s. IsSomeAnd s (λ k. IsSomeAnd old (CanBeDone k))) (sym spelled) can) printed.2 (λ e. calm (c.check_command.ensures.print_cause e)) none)
+
+pub returns-in-Some-Refs-clause-complete : goal.returns-in-Some-Refs-clause-complete
+returns-in-Some-Refs-clause-complete g c = λ can none calm.
+    let desk = g.S.Shelf.desk in
+    let old = files_of (desk c.args.shelf.now) in
+    let printed = c.refs_command.ensures.answer in
+    let asked : Command = Refs (schema_name c.in-Some-Refs.schema) c.in-Some-Refs.file.now in
+    let spelled : Some asked ≡ command_of c.args.words.now = rw c.in-Some-Refs.field-0-is at c.in-Some-Refs.ensures in
+    subst IsDone (sym c.of-in-Some-Refs.ensures.fault)
+    (completes asked old (files_of (desk c.refs_command.new.shelf)) c.refs_command.result printed.0 _ _ (c.done_only.ensures asked)
+    (subst (λ s. IsSomeAnd s (λ k. IsSomeAnd old (CanBeDone k))) (sym spelled) can) printed.2 (λ e. calm (c.refs_command.ensures.print_cause e)) none)
 
 pub returns-in-Some-Copy-clause-complete : goal.returns-in-Some-Copy-clause-complete
 returns-in-Some-Copy-clause-complete g c = λ can none calm.

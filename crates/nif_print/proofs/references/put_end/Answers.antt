@@ -1,0 +1,18 @@
+use Rattle.std.proofs.Common.{arith}
+use Rattle.nif_stream.specs.PutterLaws.{puts}
+use Rattle.nif_print.proofs.references.put_end.Goals as goal
+
+pub returns-in-Err-clause-err : goal.returns-in-Err-clause-err
+returns-in-Err-clause-err g c = grind (arith, puts)
+
+pub returns-in-Err-put-clause-err : goal.returns-in-Err-put-clause-err
+returns-in-Err-put-clause-err g c = grind (arith, puts)
+
+pub returns-in-Err-put-2-clause-err : goal.returns-in-Err-put-2-clause-err
+returns-in-Err-put-2-clause-err g c = grind (arith, puts)
+
+pub returns-clause-ok : goal.returns-clause-ok
+returns-clause-ok g c = grind (arith, puts)
+
+pub returns-clause-err : goal.returns-clause-err
+returns-clause-err g c = grind (arith, puts)
