@@ -17,6 +17,23 @@ fn fill(bytes: &mut [u8], number: u64)
     }
 }
 
+/// Puts the lowest bytes of a number, so many as the array has: the lowest first where it is little, else the highest.
+fn put_filled<K: Sink>(
+    little: bool,
+    bytes: &mut [u8],
+    bits: u64,
+    out: &mut Putter<'_, K>,
+) -> Result<(), WriteFault>
+    ensures ok { OnOk result (Puts K.grew K.write_faults out.old (number little (length bytes.old) bits) out.new) }
+    ensures err { OnErr result (Fails K.grew K.write_faults out.old (number little (length bytes.old) bits) out.new) }
+{
+    fill(bytes, bits);
+    if !little {
+        bytes.reverse();
+    }
+    out.put(bytes)
+}
+
 /// Puts the lowest bytes of a number, so many as its width says: the lowest first where it is little, else the highest.
 pub fn put_number<K: Sink>(
     little: bool,
@@ -27,11 +44,25 @@ pub fn put_number<K: Sink>(
     ensures ok { OnOk result (Puts K.grew K.write_faults out.old (number little width bits) out.new) }
     ensures err { OnErr result (Fails K.grew K.write_faults out.old (number little width bits) out.new) }
 {
-    let mut array = [0u8; 255];
-    let bytes = &mut array[..width as usize];
-    fill(bytes, bits);
-    if !little {
-        bytes.reverse();
+    if width > 8 {
+        return put_wide(little, width, bits, out);
     }
-    out.put(bytes)
+    let mut array = [0u8; 8];
+    put_filled(little, &mut array[..width as usize], bits, out)
+}
+
+/// Puts a number of more than eight bytes. A large array stands here alone, since it is cleared at each call.
+#[cold]
+#[inline(never)]
+fn put_wide<K: Sink>(
+    little: bool,
+    width: u8,
+    bits: u64,
+    out: &mut Putter<'_, K>,
+) -> Result<(), WriteFault>
+    ensures ok { OnOk result (Puts K.grew K.write_faults out.old (number little width bits) out.new) }
+    ensures err { OnErr result (Fails K.grew K.write_faults out.old (number little width bits) out.new) }
+{
+    let mut array = [0u8; 255];
+    put_filled(little, &mut array[..width as usize], bits, out)
 }
