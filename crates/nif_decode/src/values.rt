@@ -174,15 +174,20 @@ fn read_value<S: Source>(
     ensures counted { nodes.new ≤ most_nodes }
 {
     let (kind, size) = scopes::form_of(at, told, of);
-    let asked = scopes::asks_items(at, of);
     match size {
         Size::One => read_one(alloc, at, kind, depth, taker, store, nodes, told),
-        Size::Array { count, run } => read_array(
-            alloc, at, kind, count, run, asked, depth, taker, store, nodes, told,
-        ),
-        Size::Rows { count, run } => read_rows(
-            alloc, at, of, kind, count, run, asked, depth, taker, store, nodes, told,
-        ),
+        Size::Array { count, run } => {
+            let asked = scopes::asks_items(at, of);
+            read_array(
+                alloc, at, kind, count, run, asked, depth, taker, store, nodes, told,
+            )
+        }
+        Size::Rows { count, run } => {
+            let asked = scopes::asks_items(at, of);
+            read_rows(
+                alloc, at, of, kind, count, run, asked, depth, taker, store, nodes, told,
+            )
+        }
     }
 }
 

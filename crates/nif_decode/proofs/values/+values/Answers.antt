@@ -475,6 +475,9 @@ read_value-form_of-kind-requires-clause-field g t c = c.requires.field
 pub read_value-asks_items-asked-requires : goal.read_value-asks_items-asked-requires
 read_value-asks_items-asked-requires g t c = c.requires.setting
 
+pub read_value-asks_items-asked-requires-in-Rows : goal.read_value-asks_items-asked-requires-in-Rows
+read_value-asks_items-asked-requires-in-Rows g t c = c.requires.setting
+
 pub read_value-read_one-requires : goal.read_value-read_one-requires
 read_value-read_one-requires g t c κs le =
     let is : 7 * c.args.depth + 4 ≡ t = c.decreases in
@@ -534,8 +537,8 @@ read_value-returns-in-Rows-clause-answers g t c held tells =
     let kind = kind_of c.args.at.now.schema.now c.form_of-kind.result.0 in
     let width = width_of (width_at c.args.at.now.schema.now (context_in c.args.at.now) (earlier c.args.at.now held) c.args.at.now.arg) (field c.args.of.now).width in
     let new = stand c.read_rows.new.taker c.read_rows.new.nodes c.read_rows.new.store c.read_rows.new.told.items in
-    of_form g.S.Source.left g.S.Source.still g.S.Source.read_faults c.args.at.now c.args.depth (earlier c.args.at.now held) (field c.args.of.now) (Row c.in-Rows.count (λ i. row_of c.in-Rows.run' kind (width i))) c.asks_items-asked.result (asks c.args.at.now.schema.now c.args.at.now.number (field c.args.of.now)) (stand c.args.taker.now c.args.nodes.now c.args.store.now c.args.told.now.items) new c.read_rows.result
-    (c.form_of-kind.ensures.form held (c.deref.ensures.value ∙ tells) ∙ ap (λ size. form_of_size kind width size) c.in-Rows.is) c.asks_items-asked.ensures
+    of_form g.S.Source.left g.S.Source.still g.S.Source.read_faults c.args.at.now c.args.depth (earlier c.args.at.now held) (field c.args.of.now) (Row c.in-Rows.count (λ i. row_of c.in-Rows.run' kind (width i))) c.asks_items-asked-in-Rows.result (asks c.args.at.now.schema.now c.args.at.now.number (field c.args.of.now)) (stand c.args.taker.now c.args.nodes.now c.args.store.now c.args.told.now.items) new c.read_rows.result
+    (c.form_of-kind.ensures.form held (c.deref.ensures.value ∙ tells) ∙ ap (λ size. form_of_size kind width size) c.in-Rows.is) c.asks_items-asked-in-Rows.ensures
     (c.read_rows.ensures.answers held tells)
 
 pub read_group-loop-of-init : goal.read_group-loop-of-init
