@@ -16,8 +16,9 @@ use nif_scope::{Entry, scopes};
 use nif_stream::Taker;
 use nif_value::Store;
 
-/// How many bytes of a run are taken at once.
-const PIECE: usize = 4096;
+/// How many bytes of a short run are taken at once, and of a long one.
+const SHORT_PIECE: usize = 64;
+const LONG_PIECE: usize = 4096;
 
 /// Keeps bytes as items, where items are asked for.
 fn keep_bytes(asked: bool, bytes: &[u8], told: &mut Vec<Entry>) -> Result<(), NoMemory>
@@ -55,6 +56,58 @@ fn add_piece(
     }
 }
 
+/// Takes the bytes of a run that is open, in pieces that go through a buffer.
+fn take_through<S: Source>(
+    buffer: &mut [u8],
+    asked: bool,
+    count: u64,
+    taker: &mut Taker<'_, S>,
+    store: &mut Store,
+    told: &mut Vec<Entry>,
+) -> Result<(), ValueFault>
+    requires buffer { 1 ≤ length buffer.old }
+    requires run { (nodes : ℕ) → HasRun (stand taker.old nodes store.old told.old.items) }
+    ensures trees { store.new.trees ≡ store.old.trees }
+    ensures answers { (nodes : ℕ) → RunAnswers S.left S.still S.read_faults asked count
+        (stand taker.old nodes store.old told.old.items) (stand taker.new nodes store.new told.new.items) result }
+{
+    let at = taker.place();
+    let mut left = count;
+    while left > 0 {
+        let length = left.min(buffer.len() as u64) as usize;
+        let piece = &mut buffer[..length];
+        match taker.take(piece) {
+            Ok(()) => {}
+            Err(fault) => return Err(fault_at(at, fault)),
+        }
+        match add_piece(asked, piece, store, told) {
+            Ok(()) => {}
+            Err(NoMemory) => return Err(ValueFault::NoMemory),
+        }
+        left -= length as u64;
+    }
+    Ok(())
+}
+
+/// Takes the bytes of a run that is open. The large array of a long run stands here alone, since it is cleared at each
+/// call.
+#[inline(never)]
+fn take_long_run<S: Source>(
+    asked: bool,
+    count: u64,
+    taker: &mut Taker<'_, S>,
+    store: &mut Store,
+    told: &mut Vec<Entry>,
+) -> Result<(), ValueFault>
+    requires { (nodes : ℕ) → HasRun (stand taker.old nodes store.old told.old.items) }
+    ensures trees { store.new.trees ≡ store.old.trees }
+    ensures answers { (nodes : ℕ) → RunAnswers S.left S.still S.read_faults asked count
+        (stand taker.old nodes store.old told.old.items) (stand taker.new nodes store.new told.new.items) result }
+{
+    let mut array = [0; LONG_PIECE];
+    take_through(&mut array, asked, count, taker, store, told)
+}
+
 /// Takes the bytes of a run that is open, in pieces.
 fn take_run<S: Source>(
     asked: bool,
@@ -68,23 +121,11 @@ fn take_run<S: Source>(
     ensures answers { (nodes : ℕ) → RunAnswers S.left S.still S.read_faults asked count
         (stand taker.old nodes store.old told.old.items) (stand taker.new nodes store.new told.new.items) result }
 {
-    let at = taker.place();
-    let mut array = [0; PIECE];
-    let mut left = count;
-    while left > 0 {
-        let length = left.min(PIECE as u64) as usize;
-        let piece = &mut array[..length];
-        match taker.take(piece) {
-            Ok(()) => {}
-            Err(fault) => return Err(fault_at(at, fault)),
-        }
-        match add_piece(asked, piece, store, told) {
-            Ok(()) => {}
-            Err(NoMemory) => return Err(ValueFault::NoMemory),
-        }
-        left -= length as u64;
+    if count > SHORT_PIECE as u64 {
+        return take_long_run(asked, count, taker, store, told);
     }
-    Ok(())
+    let mut array = [0; SHORT_PIECE];
+    take_through(&mut array, asked, count, taker, store, told)
 }
 
 /// Reads a run of so many bytes.
