@@ -168,9 +168,11 @@ pub(crate) fn path_told(at: &Setting<'_>, entries: &[Entry], path: &Path) -> Opt
 {
     prove!(path.len() > 0);
     let name = path.get(0).bytes();
+    if let Some(member) = last_told(at.schema, at.number, name, entries) {
+        return Some(follow(at.schema, Told::At { member }, path));
+    }
     if name_told(at.schema, at.number, name, entries) {
-        let first = told_at(last_told(at.schema, at.number, name, entries));
-        return Some(follow(at.schema, first, path));
+        return Some(follow(at.schema, Told::Nowhere, path));
     }
     header_value(at.context, path)
 }
