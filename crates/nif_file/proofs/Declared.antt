@@ -7,7 +7,7 @@ use Rattle.std.proofs.Common.{ltb-true}
 use Rattle.nif_base.specs.Node as node
 use Rattle.nif_base.specs.Node.{Node, Members, End, Here, Absent, Reference, refs}
 use Rattle.nif_base.specs.File.{Block, File}
-use Rattle.nif_base.specs.Graph.{Origin, Named}
+use Rattle.nif_base.specs.Graph.{Origin}
 use Rattle.nif_schema.specs.Declaration.{Name, Field}
 use Rattle.nif_schema.specs.Schema.{Schema, line}
 use Rattle.nif_schema.specs.Schema as schema
@@ -21,11 +21,11 @@ use Rattle.nif_layout.specs.Earlier.{Env, behind}
 use Rattle.nif_layout.specs.Present.{present, formula_value}
 use Rattle.nif_layout.specs.PathValue.{leaf_of}
 use Rattle.nif_layout.specs.Kind.{Kind, Number, Line, Ref, Text, Group, Unknown, kind_of, kind_of_leaf, kind_of_what}
-use Rattle.nif_layout.specs.Form.{Form, One, Run, Row, form_of, field_kind, is_run, replaced, row_of, sized, width_at}
+use Rattle.nif_layout.specs.Form.{One, form_of, field_kind, is_run, replaced, row_of, sized, width_at}
 use Rattle.nif_layout.specs.Fault.{Fault}
 use Rattle.nif_layout.specs.Members.{Member, Check, no_check, Fields, Items}
 use Rattle.nif_layout.specs.Shape.{Shape, IsForm}
-use Rattle.nif_graph.specs.Graph.{find, kind_of as kind_in, reference}
+use Rattle.nif_graph.specs.Graph.{find, reference}
 use Rattle.nif_graph.specs.Reach.{DeclaresTypes}
 use Rattle.nif_graph.specs.Written.{named_from, graph_of}
 use Rattle.nif_graph.specs.declared.places.RolePlaces.{RolePlaces}

@@ -1,5 +1,5 @@
 -- What is printed of the references of a graph: a line for each, of the blocks in order, and then of the footer.
-use Rattle.std.specs.Prelude.{ℕ, suc, ◌≡◌, ◌<◌, Bool, if◌then◌else◌, List, [], ◌∷◌, ◌++◌, length, codes, decimal, None, Some, option_and_then, slice_get}
+use Rattle.std.specs.Prelude.{ℕ, suc, Bool, if◌then◌else◌, List, [], ◌∷◌, ◌++◌, codes, decimal, None, Some, option_and_then, slice_get}
 use Rattle.std.specs.declared.option.Option.{Option}
 use Rattle.std.specs.Option.{option_map_or}
 use Rattle.nif_base.specs.Node.{Reference, refs}
