@@ -10,3 +10,10 @@ pub mod GoingLemmas
 pub mod FirstLemmas
 pub mod Longest
 pub mod Decided
+pub mod StackLemmas
+pub mod ConstantLemmas
+pub mod PlaceLemmas
+pub mod CodeLemmas
+pub mod TreeLemmas
+pub mod AddLemmas
+pub mod SlotLemmas

@@ -8,3 +8,5 @@ pub mod Steps
 pub mod Kept
 pub mod Classes
 pub mod SignTable
+pub mod Codes
+pub mod Compiled

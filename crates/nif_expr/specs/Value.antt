@@ -1,5 +1,5 @@
 -- The value of an expression: a whole number modulo 2 ^ 64.
-use Rattle.std.specs.Prelude.{ℕ, ◌+◌, ◌-◌, ◌*◌, ◌/◌, ◌%◌, ◌^◌, Bool, true, false, ◌&&◌, ◌||◌, not, if◌then◌else◌, ◌==◌, nat_lt, nat_le, nat_eq, bit_and, bit_or, List, [], ◌∷◌, reverse}
+use Rattle.std.specs.Prelude.{ℕ, ◌+◌, ◌-◌, ◌*◌, ◌/◌, ◌%◌, ◌^◌, Bool, true, false, ◌&&◌, ◌||◌, not, if◌then◌else◌, ◌==◌, nat_lt, nat_le, nat_eq, bit_and, bit_or, List, [], ◌∷◌, reverse, drop, slice_index}
 use lib.Pointwise.{pointwise}
 use Rattle.nif_schema.specs.declared.exprs.Op.{Op}
 use Rattle.nif_schema.specs.declared.exprs.Op.TheVariants.{Mul, Div, Add, Sub, Shl, Shr, Lt, Le, Gt, Ge, Eq, Ne, BitAnd, BitOr, And, Or}
@@ -21,6 +21,11 @@ first_value (pair ∷ more) path = if is_same pair.0 path then pair.1 else first
 -- Of the pairs of one path the last counts.
 abbrev pub look : List (Names × ℕ) → Names → ℕ
 look pairs path = first_value (reverse pairs) path
+
+-- Each path with the number in its slot, the slots in the order of the paths; a slot that isn't there is 0.
+abbrev pub bound : List Names → List ℕ → List (Names × ℕ)
+bound [] slots = []
+bound (path ∷ paths) slots = (path, slice_index slots 0) ∷ bound paths (drop 1 slots)
 
 -- a truth as a number
 abbrev pub bit : Bool → ℕ

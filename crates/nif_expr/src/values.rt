@@ -8,7 +8,7 @@ use crate::bindings::Env;
 use nif_schema::{Expr, Op};
 
 /// What a two-sided operator makes of two numbers.
-fn apply(op: Op, a: u64, b: u64) -> u64
+pub(crate) fn apply(op: Op, a: u64, b: u64) -> u64
     ensures { result ≡ spec.apply op a b }
 {
     match op {
