@@ -20,6 +20,7 @@ use Rattle.nif_layout.specs.Form.{One, number_at_item}
 use Rattle.nif_base.specs.Limits.{most_file_bytes, most_nodes}
 use Rattle.nif_layout.specs.Fault.{RefRange, TooDeep, TooManyNodes}
 use Rattle.nif_layout.specs.Shape.{Shape, Spells, FormShape}
+use Rattle.nif_layout.specs.Zero.{zero_of}
 use Rattle.nif_layout.specs.Fails.{Fails, ItemsFail, FormShapeFails}
 
 -- ---- a small schema
@@ -720,3 +721,20 @@ two_hollows_spelled = (
   ),
   refl,
 )
+
+-- ---- zero nodes
+
+zero_ragged : zero_of schema context 4 ≡ node.Group (row (byte 0 ∷ node.Bytes [] ∷ byte 0 ∷ node.Row End ∷ []))
+unfolding parent by_name is_own_template
+zero_ragged = refl
+
+-- the second of the pair isn't there, since the argument is 0
+zero_bits : zero_of schema context 13
+    ≡ node.Group (row (word 0 ∷ node.Bytes [] ∷ node.Group (Here (word 0) (Absent End)) ∷ []))
+unfolding parent by_name is_own_template
+zero_bits = refl
+
+zero_links : zero_of schema context 16
+    ≡ node.Group (row (node.Ref true (Some 15) None ∷ node.Ref true None None ∷ node.Text None ∷ node.Line [] ∷ []))
+unfolding parent by_name is_own_template
+zero_links = refl

@@ -25,3 +25,7 @@ pub mod LeafLaws
 pub mod OpenTypeLaws
 pub mod OpenKindLaws
 pub mod ValueLaws
+pub mod Zero
+pub mod ZeroLaws
+pub mod BareLaws
+pub mod WantedLaws

@@ -13,6 +13,7 @@ ghost use Rattle.nif_layout.specs.Fault.{Fault};
 ghost use Rattle.nif_layout.specs.Members.{Check};
 ghost use Rattle.nif_layout.specs.Defined.{AllDefined};
 ghost use Rattle.nif_layout.specs.Laws.{Fits, AllFit, IsOpenType, HasTemplate, OneNode, NoProperPrefix, OneForm, OneLine, SpelledOrFails, FormSpelledOrFails, LineSpelledOrFails};
+ghost use Rattle.nif_layout.specs.ZeroLaws.{LeadsNowhere, IsZeroValue};
 
 /// Two values of a type that are spelled by the same bytes are one.
 pub fn same_bytes_same_node()
@@ -71,4 +72,11 @@ pub fn all_defined()
 /// Groups lie no deeper in a value than its bound.
 pub fn depth_within()
     ensures { (S : Schema) (C : Context) (d : ℕ) (kind : Kind) (at : Node) → Shape S C d kind at → depth at ≤ d }
+{}
+
+/// Each reference of the zero node of a type is empty; and where no group lies 65 deep in it, the zero node of an open
+/// type is a value of that type.
+pub fn zero_values()
+    ensures empty { LeadsNowhere }
+    ensures value { IsZeroValue }
 {}
