@@ -247,10 +247,10 @@ module _ (parts : GraphParts) (are : AreParts parts) where
   -- what stands of the parts once they are kept
   pub kept : (listed : Listed) (marks : Marks) → listed.slots ≡ slots_from 0 parts.blocks → listed.next ≡ length parts.blocks
       → length marks.marks.items ≡ listed.next → (listed.next + 0 ≤ vec_capacity marks.queue)
-      → (listed.next + 0 ≤ vec_capacity marks.marks) → length parts.types.items < 2 ^ 32
+      → (listed.next + 0 ≤ vec_capacity marks.marks) → length parts.types.items < 2 ^ 32 → listed.next < 2 ^ 32
       → IsKept parts.store parts.header parts.footer parts.places (origin_of parts.context parts.strings) parts.indexed
       parts.types.items listed parts.nodes marks 0
-  kept listed marks slots next marked queued markable few_types =
+  kept listed marks slots next marked queued markable few_types few_names =
       let same = kept_is listed slots next in
       let keys : kept_keys parts.header parts.footer listed.slots ≡ keys_of parts =
       ap (λ ks. parts.header.run.key ∷ parts.footer.run.key ∷ ks)
@@ -267,6 +267,7 @@ module _ (parts : GraphParts) (are : AreParts parts) where
         markable = markable;
         roomy = omega arith;
         few_types = few_types;
+        few_names = few_names;
       }
 
 -- ---- what is kept
@@ -312,6 +313,7 @@ module _ (store : Trees) (header footer : TreeId) (places : RolePlaces) (origin 
         markable = (let q : listed.next + room' ≤ vec_capacity marks'.marks = markable in omega arith);
         roomy = roomy;
         few_types = h.few_types;
+        few_names = subst (λ n. n < 2 ^ 32) (sym next) h.few_names;
       }
 
   -- where the trees are the same
@@ -335,4 +337,5 @@ module _ (store : Trees) (header footer : TreeId) (places : RolePlaces) (origin 
         markable = h.markable;
         roomy = h.roomy;
         few_types = h.few_types;
+        few_names = h.few_names;
       }

@@ -1,4 +1,15 @@
+pub mod Changed
+pub mod Changing
+pub mod Copied
+pub mod Emptied
+pub mod Finding
 pub mod Keeping
 pub mod Marking
+pub mod Placing
+pub mod Pointing
 pub mod Reading
+pub mod Replaced
 pub mod Tables
+pub mod Taken
+pub mod Targets
+pub mod Totals

@@ -51,7 +51,7 @@ place_before name (c ∷ slots) s other = elim (test (name == c.name)) [
 ]
 
 -- no block has a name that is past all
-none_past : (n next : ℕ) (slots : List Slot) → next ≤ n → ((k : ℕ) (s : Slot) → slice_get slots k ≡ Some s → s.name < next)
+pub none_past : (n next : ℕ) (slots : List Slot) → next ≤ n → ((k : ℕ) (s : Slot) → slice_get slots k ≡ Some s → s.name < next)
     → place_in n slots ≡ None
 none_past n next [] past below = refl
 none_past n next (s ∷ slots) past below =

@@ -48,6 +48,7 @@ pub record IsKept (store : Trees) (header footer : TreeId) (places : RolePlaces)
   pub markable : listed.next + room ≤ vec_capacity marks.marks
   pub roomy : room ≤ listed.room
   pub few_types : length types < 2 ^ 32
+  pub few_names : listed.next < 2 ^ 32
 
 -- the trees of the blocks are live
 abbrev pub SlotsLive : Trees → List Slot → Type 0

@@ -2,7 +2,7 @@
 use Rattle.std.specs.Prelude.{ℕ, suc, ◌≡◌, ◌^◌, ◌<◌, ◌≤◌, ◌==◌, None, Some, List, [], ◌∷◌, length, slice_get, if◌then◌else◌, refl}
 use Rattle.std.specs.Coded.{Coded, code_by, coded×, coded_ℕ, coded_list}
 use Rattle.std.specs.declared.option.Option.{Option}
-use Rattle.std.specs.Option.{option_map}
+use Rattle.std.specs.Option.{option_map, option_map_or}
 use Rattle.nif_graph.specs.declared.parts.BlockPart.{BlockPart}
 use Rattle.nif_graph.specs.declared.slots.Slot.{Slot}
 use Rattle.nif_graph.specs.contracts.slots.Slot as slot
@@ -45,3 +45,7 @@ slots_from name (b ∷ blocks) = record {
   index_word = b.index_word;
   tree = b.tree;
 } ∷ slots_from (suc name) blocks
+
+-- what a table says of a name, once the blocks are entered in it
+abbrev pub tabled : ℕ → List Slot → List (Option ℕ) → Option (Option ℕ)
+tabled n slots old = option_map_or (λ place. Some (Some place)) (place_in n slots) (slice_get old n)

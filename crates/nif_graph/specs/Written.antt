@@ -1,5 +1,5 @@
 -- The file that is written of a graph: each target is the place of its block, and the header says what the graph tells.
-use Rattle.std.specs.Prelude.{ℕ, zero, suc, ◌==◌, Bool, true, false, ◌&&◌, List, [], ◌∷◌, map, length, if◌then◌else◌, unwrap_or}
+use Rattle.std.specs.Prelude.{ℕ, zero, suc, ◌+◌, ◌==◌, Bool, true, false, ◌&&◌, List, [], ◌∷◌, map, length, if◌then◌else◌, unwrap_or}
 use Rattle.std.specs.Option.{option_map_or}
 use Rattle.nif_base.specs.Node.{Node, Members, Num, Bytes, Group, Row, End, Here, Absent, retargeted, size}
 use Rattle.nif_base.specs.File.{Block, File}
@@ -125,3 +125,28 @@ graph_of places origin types F = record {
   footer = F.footer;
   next = length F.blocks;
 }
+
+-- ---- what the header says of each block
+
+abbrev pub rows_of : Node → ℕ
+rows_of (Row items) = 1
+rows_of node = 0
+
+-- how many items a member of the header has for each block: one where it is the row of the sizes or of the index, else none
+abbrev pub rows_at : RolePlaces → Bool → ℕ → Node → ℕ
+rows_at places indexed k node =
+    if k == places.num_blocks then 0
+    else if option_map_or (λ place. k == place) places.sizes false then rows_of node
+    else if indexed && option_map_or (λ place. k == place) places.num_types false then 0
+    else if indexed && option_map_or (λ place. k == place) places.types false then 0
+    else if indexed && option_map_or (λ place. k == place) places.index false then rows_of node
+    else 0
+
+abbrev pub rows_from : RolePlaces → Bool → ℕ → Members → ℕ
+rows_from places indexed k End = 0
+rows_from places indexed k (Here node rest) = rows_at places indexed k node + rows_from places indexed (suc k) rest
+rows_from places indexed k (Absent rest) = rows_from places indexed (suc k) rest
+
+-- How many rows of a header have an item for each block: that of their sizes, and that of the index of types.
+abbrev pub told_rows : RolePlaces → Node → ℕ
+told_rows places header = rows_from places (is_indexed places header) 0 (members_of header)

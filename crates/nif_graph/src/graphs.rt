@@ -1,5 +1,5 @@
 //! The graph of a file.
-ghost use Rattle.std.specs.Prelude.{◌≡◌, ◌+◌, ◌≤◌, ◌<◌, ◌^◌, ℕ, true, length, map, None, Some, IfSome, IfOk, OnOk, OnErr, IsSome, IsSomeAnd, slice_get, unwrap_or, option_and_then, refl, min, max};
+ghost use Rattle.std.specs.Prelude.{◌≡◌, ◌+◌, ◌≤◌, ◌<◌, ◌^◌, ℕ, true, length, map, None, Some, IfSome, IfOk, IsOk, OnOk, OnErr, IsSome, IsSomeAnd, slice_get, unwrap_or, option_and_then, refl, min, max};
 ghost use Rattle.std.specs.Option.{option_map};
 ghost use Rattle.nif_base.specs.Node.{refs};
 ghost use Rattle.nif_base.specs.File.{nodes_of};
@@ -26,22 +26,22 @@ use std::marker::Model;
 /// are names. In a graph that was just read the name of a block is its place.
 #[derive(Drop)]
 pub struct Graph {
-    store: Store,
-    header: TreeId,
-    footer: TreeId,
-    places: RolePlaces,
-    context: Context,
-    strings: u32,
-    indexed: bool,
-    types: Vec<Word>,
-    slots: Slots,
-    nodes: u32,
-    bytes: u32,
-    marks: Marks,
+    pub(crate) store: Store,
+    pub(crate) header: TreeId,
+    pub(crate) footer: TreeId,
+    pub(crate) places: RolePlaces,
+    pub(crate) context: Context,
+    pub(crate) strings: u32,
+    pub(crate) indexed: bool,
+    pub(crate) types: Vec<Word>,
+    pub(crate) slots: Slots,
+    pub(crate) nodes: u32,
+    pub(crate) bytes: u32,
+    pub(crate) marks: Marks,
     // for so many blocks of new names there is room
-    room: u32,
+    pub(crate) room: u32,
     // a copy of a name that is yet to become an entry
-    room_for_name: Option<Word>,
+    pub(crate) room_for_name: Option<Word>,
 }
 
 impl Model for Graph {
@@ -358,7 +358,7 @@ impl Graph {
     }
 
     /// Makes room for so many blocks of new names.
-    fn reserve_blocks(&mut self, blocks: u32) -> Result<(), NoMemory>
+    pub(crate) fn reserve_blocks(&mut self, blocks: u32) -> Result<(), NoMemory>
         ensures graph { self.new.graph ≡ self.old.graph }
         ensures places { self.new.places ≡ self.old.places }
         ensures trees { self.new.trees ≡ self.old.trees }
@@ -366,6 +366,7 @@ impl Graph {
         ensures name { self.new.room_for_name ≡ self.old.room_for_name }
         ensures stays { self.old.room ≤ self.new.room }
         ensures room { OnOk result (blocks ≤ self.new.room) }
+        ensures succeeds { blocks ≤ self.old.room → IsOk result }
     {
         if blocks <= self.room {
             return Ok(());

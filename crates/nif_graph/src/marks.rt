@@ -62,6 +62,16 @@ impl Marks {
         }
     }
 
+    /// Puts a mark behind the others, where there is room; it is not set.
+    pub(crate) fn grow(&mut self)
+        requires { length self.old.marks.items < vec_capacity self.old.marks }
+        ensures length { length self.new.marks.items ≡ length self.old.marks.items + 1 }
+        ensures marks_room { vec_capacity self.new.marks ≡ vec_capacity self.old.marks }
+        ensures queue_room { vec_capacity self.new.queue ≡ vec_capacity self.old.queue }
+    {
+        self.marks.push_reserved(false);
+    }
+
     /// Takes all marks away.
     fn clear(&mut self)
         ensures clear { unmarked self.new.marks.items ≡ length self.new.marks.items }

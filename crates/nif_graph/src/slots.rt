@@ -1,6 +1,8 @@
 //! Blocks in order, each under its name, and a table of the places of names.
-ghost use Rattle.std.specs.Prelude.{◌≡◌, ◌+◌, ◌-◌, ◌≤◌, ◌<◌, ◌^◌, ℕ, [], ◌∷◌, ◌++◌, length, min, None, Some, OnOk, OnErr, IsSome, IfSome, slice_get, unwrap_or, vec_capacity};
-ghost use Rattle.nif_graph.specs.Slots.{place_in};
+ghost use Rattle.std.specs.Prelude.{◌≡◌, ◌+◌, ◌-◌, ◌≤◌, ◌<◌, ◌^◌, ℕ, [], ◌∷◌, ◌++◌, length, min, None, Some, OnOk, OnErr, IsSome, IfSome, slice_get, slice_set, insert, unwrap_or, vec_capacity};
+ghost use Rattle.std.specs.List.{remove};
+ghost use Rattle.nif_graph.specs.declared.slots.Slot.{Slot};
+ghost use Rattle.nif_graph.specs.Slots.{place_in, DifferentSlots, tabled};
 
 use nif_base::NoMemory;
 use nif_value::TreeId;
@@ -87,6 +89,17 @@ impl Slots {
         None
     }
 
+    /// The place of the block of a name.
+    pub(crate) fn place_there(&self, name: u32) -> u32
+        requires { IsSome (place_in name self.now.slots) }
+        ensures { place_in name self.now.slots ≡ Some result }
+    {
+        match self.place_of(name) {
+            Some(place) => place,
+            None => unreachable!(),
+        }
+    }
+
     /// The block of a name.
     pub(crate) fn find(&self, name: u32) -> Slot
         requires { IsSome (place_in name self.now.slots) }
@@ -145,5 +158,100 @@ impl Slots {
             tree,
         });
         self.places.push_reserved(Some(place));
+    }
+
+    /// Takes the block at a place out. No block has its name then.
+    pub(crate) fn take(&mut self, place: u32) -> Slot
+        requires { place < length self.old.slots }
+        ensures slot { slice_get self.old.slots place ≡ Some result }
+        ensures slots { self.new.slots ≡ remove self.old.slots place }
+        ensures next { self.new.next ≡ self.old.next }
+        ensures room { self.old.room ≤ self.new.room }
+    {
+        let slot = self.slots.remove(place as usize);
+        self.places[slot.name as usize] = None;
+        enter(&mut self.places, &self.slots);
+        slot
+    }
+
+    /// Puts the block at a place at another place, counted without it.
+    pub(crate) fn put(&mut self, from: u32, to: u32) -> Slot
+        requires from { from < length self.old.slots }
+        requires to { to < length self.old.slots }
+        ensures slot { slice_get self.old.slots from ≡ Some result }
+        ensures slots { self.new.slots ≡ insert (remove self.old.slots from) to result }
+        ensures next { self.new.next ≡ self.old.next }
+        ensures room { self.new.room ≡ self.old.room }
+    {
+        let slot = self.slots.remove(from as usize);
+        insert_reserved(&mut self.slots, to as usize, slot);
+        enter(&mut self.places, &self.slots);
+        slot
+    }
+
+    /// Puts a block at a place, under the next name, where there is room.
+    pub(crate) fn insert(&mut self, at: u32, kind: u32, index_word: Option<u16>, tree: TreeId)
+        requires at { at ≤ length self.old.slots }
+        requires room { 1 ≤ self.old.room }
+        requires few { self.old.next < 2 ^ 32 - 1 }
+        ensures slots { self.new.slots ≡ insert self.old.slots at (record {
+          name = self.old.next;
+          kind = kind;
+          index_word = index_word;
+          tree = tree;
+        }) }
+        ensures next { self.new.next ≡ self.old.next + 1 }
+        ensures room { self.new.room + 1 ≡ self.old.room }
+    {
+        let name = self.places.len() as u32;
+        self.places.push_reserved(None);
+        let slot = Slot {
+            name,
+            kind,
+            index_word,
+            tree,
+        };
+        insert_reserved(&mut self.slots, at as usize, slot);
+        enter(&mut self.places, &self.slots);
+    }
+
+    /// Puts another block of the same name in place of the one at a place.
+    pub(crate) fn set(&mut self, place: u32, slot: Slot)
+        requires name { IfSome (slice_get self.old.slots place) (λ old. slot.name ≡ old.name) }
+        requires within { place < length self.old.slots }
+        ensures slots { self.new.slots ≡ slice_set self.old.slots place slot }
+        ensures next { self.new.next ≡ self.old.next }
+        ensures room { self.new.room ≡ self.old.room }
+    {
+        self.slots[place as usize] = slot;
+    }
+}
+
+/// Enters the blocks in a table, each under its name.
+fn enter(places: &mut Vec<Option<u32>>, slots: &Vec<Slot>)
+    requires names { (k : ℕ) (s : Slot) → slice_get slots.now.items k ≡ Some s → s.name < length places.old.items }
+    requires different { DifferentSlots slots.now.items }
+    requires few { length slots.now.items < 2 ^ 32 }
+    ensures length { length places.new.items ≡ length places.old.items }
+    ensures capacity { vec_capacity places.new ≡ vec_capacity places.old }
+    ensures table { (n : ℕ) → n < length places.old.items
+        → slice_get places.new.items n ≡ tabled n slots.now.items places.old.items }
+{
+    for place in 0..slots.len() {
+        let slot = slots[place];
+        places[slot.name as usize] = Some(place as u32);
+    }
+}
+
+/// Puts a block at a place of a list that has room.
+fn insert_reserved(slots: &mut Vec<Slot>, at: usize, slot: Slot)
+    requires at { at ≤ length slots.old.items }
+    requires room { length slots.old.items < vec_capacity slots.old }
+    ensures items { slots.new.items ≡ insert slots.old.items at slot }
+    ensures capacity { vec_capacity slots.new ≡ vec_capacity slots.old }
+{
+    match slots.insert(at, slot) {
+        Ok(()) => {}
+        Err(_) => unreachable!(),
     }
 }
