@@ -6,7 +6,11 @@ use std::alloc::Global;
 use std::test::Fail;
 
 /// A path of one name, or of two.
-fn make_path(alloc: Global, first: &[u8], second: Option<&[u8]>) -> Result<Path, NoMemory> {
+pub(crate) fn make_path(
+    alloc: Global,
+    first: &[u8],
+    second: Option<&[u8]>,
+) -> Result<Path, NoMemory> {
     let mut path = Path::new(alloc, Word::from_bytes(alloc, first)?)?;
     if let Some(name) = second {
         if path.len() < 9 {

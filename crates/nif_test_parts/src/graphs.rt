@@ -26,9 +26,12 @@ fn put(bytes: &mut Vec<u8>, number: u32) -> Result<(), Fail> {
 
 /// The bytes of a file of nodes, without a root.
 fn file_of(alloc: Global, nodes: &[Node]) -> Result<Vec<u8>, Fail> {
+    let Ok(count) = u32::try_from(nodes.len()) else {
+        return Err("too many nodes".into());
+    };
     let mut bytes = Vec::new(alloc);
     bytes.extend_from_slice(b"Gamebryo File Format, Version 20.2.0.7\n\x07\0\x02\x14\x01\0\0\0\0")?;
-    put(&mut bytes, nodes.len() as u32)?;
+    put(&mut bytes, count)?;
     bytes.extend_from_slice(b"\x01\0\x09\0\0\0SceneNode")?;
     for _ in nodes {
         bytes.extend_from_slice(b"\0\0")?;

@@ -1,5 +1,6 @@
 //! Tests alone, of what no command shows: the tree of a block, what strong references lead to, a region of many runs,
-//! files and bytes in memory, the real shelf, and expressions with bindings.
+//! files and bytes in memory, the real shelf, expressions with bindings and as code words, and a script with each form
+//! of line.
 #![tactic(auto)]
 
 #[cfg(test)]
@@ -7,10 +8,14 @@ mod bindings;
 #[cfg(test)]
 mod blocks;
 #[cfg(test)]
+mod codes;
+#[cfg(test)]
 mod graphs;
 #[cfg(test)]
 mod memory;
 #[cfg(test)]
 mod regions;
+#[cfg(test)]
+mod scripts;
 #[cfg(test)]
 mod system;
