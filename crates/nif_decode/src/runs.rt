@@ -18,6 +18,7 @@ use nif_value::Store;
 
 /// How many bytes of a short run are taken at once, and of a long one.
 const SHORT_PIECE: usize = 64;
+
 const LONG_PIECE: usize = 4096;
 
 /// Keeps bytes as items, where items are asked for.
